@@ -1,0 +1,2 @@
+// Texts by their summaries: the two interfaces, the tally, and the keeping of cells.
+pub mod fold;
