@@ -1,3 +1,4 @@
-pub mod Texts
 pub mod Legs
 pub mod Sets
+pub mod Tallies
+pub mod Texts

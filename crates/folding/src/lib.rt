@@ -1,2 +1,3 @@
 // Texts by their summaries: the two interfaces, the tally, and the keeping of cells.
 pub mod fold;
+pub mod tally;
