@@ -1,3 +1,5 @@
+pub mod Cells
+pub mod Keeping
 pub mod Legs
 pub mod Sets
 pub mod Tallies
