@@ -10,8 +10,10 @@ ghost use Rattle.std.specs.Results.{Cases};
 ghost use Rattle.folding.specs.Cells.{under, Tree, cells as cells-of, Above};
 ghost use Rattle.folding.specs.Keeping.{half, Clears, Puts, Spares, Gathers, Ready};
 ghost use Rattle.folding.specs.Legs.{Associative};
+ghost use Rattle.folding.specs.Losing.{FirstLost};
 ghost use Rattle.folding.specs.Texts.{AllBytes};
 use crate::fold::Folding;
+use crate::fold::Judging;
 use fault::Fault;
 use fault::Layer;
 use fault::Refusal;
@@ -92,4 +94,19 @@ pub fn whole<F: Folding>(folding: &F, cells: &[F::Leg]) -> F::Leg
     } else {
         folding.empty()
     }
+}
+
+// The first slot at whose end the text so far is lost: the same fold, up to there.
+pub fn first_lost<M: Judging>(machine: &M, cells: &[M::Leg]) -> Option<usize>
+    ensures value { λ r. ⌜ ((slots : List (List ℕ)) → AllBytes slots → now (cells .entry) ≡ cells-of (M·Folding .leg (now (machine .entry))) slots → FirstLost (M·Judging .means (now (machine .entry))) slots r) ⌝ }
+{
+    let n = cells.len() / 2;
+    let mut so_far = machine.empty();
+    for s in 0..n {
+        so_far = machine.join(&so_far, &cells[n + s]);
+        if machine.lost(&so_far) {
+            return Some(s);
+        }
+    }
+    None
 }
