@@ -1,0 +1,3 @@
+pub mod Granting
+pub mod Sizing
+pub mod Standing
