@@ -1,3 +1,5 @@
 pub mod Granting
+pub mod Lawful
 pub mod Sizing
 pub mod Standing
+pub mod Tracing

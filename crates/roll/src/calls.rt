@@ -55,9 +55,12 @@ fn fitting(n: usize, legs: usize, tallies: usize) -> Result<(), Fault>
 }
 
 impl Roll {
-    // A roll with no slots, which holds the empty text.
-    pub fn new() -> Roll
+    // A roll with no slots, which holds the empty text. `law` is what the product is for: it speaks
+    // of every run of a roll under a machine of kind M, and of any two runs, the other under a
+    // machine of kind O (which may be the same kind).
+    pub fn new<M: Judging, O: Judging>() -> Roll
         ensures made { λ r. ⌜ AsMade r ⌝ }
+        ensures law { λ _. ⌜ ((m : M) (o : O) → Law (M·Folding .leg m) (M·Judging .means m) (O·Folding .leg o) (O·Judging .means o)) ⌝ }
     {
         Roll {
             slots: [Slot::Empty; 128],
