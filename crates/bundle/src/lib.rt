@@ -1,0 +1,4 @@
+// Bundles: a pattern and the numbered strips of a text in one run of bytes; docs/bundles.md has the layout.
+mod bytes;
+pub mod decode;
+pub mod walk;
