@@ -1,13 +1,15 @@
 -- Cutting runs of slots, lengths and texts into strips, and joining strips again. Assumes nothing.
 use mathlib.Core.Path.{_≡_, refl, sym, ap, _∙_}
 use mathlib.Core.List.{List, [], _∷_, _++_}
-use Prim.Native.Nat.{ℕ, suc, _+_, _*_, _≤_}
+use Prim.Native.Nat.{ℕ, suc, _+_, _*_, _<_, _≤_}
 use native.Mathlib.Omega.{arith}
 use lib.ListN.{length, take, drop}
+use Rattle.std.specs.shelf.Lists.{All}
+use Rattle.std.proofs.shelf.Elements.{all-take, all-drop}
 use Rattle.std.proofs.shelf.Lists.{length-append, length-drop, length-take-le, take-append-drop, take-at, drop-at, nil-from-length}
 use Rattle.folding.specs.Texts.{Bytes}
 use Rattle.bundle.specs.Cuts.{cut}
-use Rattle.bundle.specs.Layout.{Piece, size16, slots, lengths, texts}
+use Rattle.bundle.specs.Layout.{Piece, OfBytes, size16, slots, lengths, texts}
 use Rattle.bundle.specs.Sizes.{word16, sum16}
 use Rattle.bundle.proofs.Words.{size-word, word-size, sum-step}
 
@@ -36,6 +38,12 @@ texts-cut (s ∷ ss) ls ts e =
     let w = word16 ls 0 in
     let rest = texts-cut ss (drop 2 ls) (drop w ts) (omega (arith, sum-step ls (length ss), length-drop w ts)) in
     ap (λ l. take w ts ++ l) rest ∙ take-append-drop w ts
+
+pub bytes-cut : (ss ls ts : List ℕ) → Bytes ss → Bytes ts → All OfBytes (cut ss ls ts)
+bytes-cut [] ls ts a b = tt
+bytes-cut (s ∷ ss) ls ts a b =
+    let w = word16 ls 0 in
+    ((a .0, all-take (λ c. c < 256) w ts b), bytes-cut ss (drop 2 ls) (drop w ts) (a .1) (all-drop (λ c. c < 256) w ts b))
 
 pub length-lengths : (ps : List Piece) → length (lengths ps) ≡ 2 * length ps
 length-lengths [] = refl

@@ -1,17 +1,18 @@
--- The parts of a bundle, written again, are the bundle. Assumes nothing.
+-- The parts of an input are made of bytes, and those of a bundle, written again, are the bundle. Assumes nothing.
 use mathlib.Core.Path.{_≡_, refl, sym, ap, _∙_}
 use mathlib.Core.List.{List, [], _∷_, _++_}
 use Prim.Native.Nat.{ℕ, _+_, _-_, _*_, _<_, _≤_}
 use native.Mathlib.Nat.{add-zero}
 use native.Mathlib.Omega.{arith}
 use lib.ListN.{length, getD, take, drop}
+use Rattle.std.specs.shelf.Lists.{All}
 use Rattle.std.proofs.shelf.Elements.{all-getD, all-take, all-drop}
 use Rattle.std.proofs.shelf.Lists.{length-drop, length-take-le, take-append-drop}
 use Rattle.folding.specs.Texts.{Bytes}
 use Rattle.bundle.specs.Cuts.{cut}
-use Rattle.bundle.specs.Layout.{size16, slots, lengths, texts, written}
-use Rattle.bundle.specs.Sizes.{word16, sum16, count, RightSize}
-use Rattle.bundle.proofs.Cuts.{length-cut, slots-cut, lengths-cut, texts-cut}
+use Rattle.bundle.specs.Layout.{OfBytes, size16, written}
+use Rattle.bundle.specs.Sizes.{word16, sum16, count, pattern-size, RightSize}
+use Rattle.bundle.proofs.Cuts.{length-cut, slots-cut, lengths-cut, texts-cut, bytes-cut}
 use Rattle.bundle.proofs.Words.{size-word, sum-drop, sum-take}
 
 abbrev is-byte : ℕ → Type 0
@@ -41,14 +42,14 @@ abbrev pub lengths-in : List ℕ → List ℕ
 lengths-in bs = take (2 * count bs) (after-slots bs)
 
 abbrev pub pattern-in : List ℕ → List ℕ
-pattern-in bs = take (word16 bs 2) (after-lengths bs)
+pattern-in bs = take (pattern-size bs) (after-lengths bs)
 
 abbrev pub texts-in : List ℕ → List ℕ
-texts-in bs = drop (word16 bs 2) (after-lengths bs)
+texts-in bs = drop (pattern-size bs) (after-lengths bs)
 
 body-whole : (bs : List ℕ) → slots-in bs ++ (lengths-in bs ++ (pattern-in bs ++ texts-in bs)) ≡ body bs
 body-whole bs =
-    let tail = take-append-drop (word16 bs 2) (after-lengths bs) in
+    let tail = take-append-drop (pattern-size bs) (after-lengths bs) in
     let rest = ap (λ l. lengths-in bs ++ l) tail ∙ take-append-drop (2 * count bs) (after-slots bs) in
     ap (λ l. slots-in bs ++ l) rest ∙ take-append-drop (count bs) (body bs)
 
@@ -59,6 +60,23 @@ sum-in bs =
     ∙ sum-drop n (body bs) 0 n
     ∙ sum-drop 4 bs (n + 0) n
     ∙ ap (λ k. sum16 bs (4 + k) n) (add-zero n)
+
+-- whatever its size
+module _ (bs : List ℕ) (bytes : Bytes bs) where
+  byte-body : Bytes (body bs)
+  byte-body = all-drop is-byte 4 bs bytes
+
+  byte-rest : Bytes (after-slots bs)
+  byte-rest = all-drop is-byte (count bs) (body bs) byte-body
+
+  byte-tail : Bytes (after-lengths bs)
+  byte-tail = all-drop is-byte (2 * count bs) (after-slots bs) byte-rest
+
+  pub byte-parts : Bytes (pattern-in bs) × All OfBytes (cut (slots-in bs) (lengths-in bs) (texts-in bs))
+  byte-parts = (
+    all-take is-byte (pattern-size bs) (after-lengths bs) byte-tail,
+    bytes-cut (slots-in bs) (lengths-in bs) (texts-in bs) (all-take is-byte (count bs) (body bs) byte-body) (all-drop is-byte (pattern-size bs) (after-lengths bs) byte-tail),
+  )
 
 module _ (bs : List ℕ) (bytes : Bytes bs) (right : RightSize bs) where
   long-body : length (body bs) + 4 ≡ length bs
@@ -76,12 +94,12 @@ module _ (bs : List ℕ) (bytes : Bytes bs) (right : RightSize bs) where
   long-tail : length (after-lengths bs) + (4 + 3 * count bs) ≡ length bs
   long-tail = omega (arith, long-rest, length-drop (2 * count bs) (after-slots bs), right .0)
 
-  long-pattern : length (pattern-in bs) ≡ word16 bs 2
-  long-pattern = length-take-le (word16 bs 2) (after-lengths bs) (omega (arith, long-tail, right .0))
+  long-pattern : length (pattern-in bs) ≡ pattern-size bs
+  long-pattern = length-take-le (pattern-size bs) (after-lengths bs) (omega (arith, long-tail, right .0))
 
   sum-texts : sum16 (lengths-in bs) 0 (length (slots-in bs)) ≡ length (texts-in bs)
   sum-texts =
-      ap (sum16 (lengths-in bs) 0) long-slots ∙ sum-in bs ∙ omega (arith, long-tail, length-drop (word16 bs 2) (after-lengths bs), right .0)
+      ap (sum16 (lengths-in bs) 0) long-slots ∙ sum-in bs ∙ omega (arith, long-tail, length-drop (pattern-size bs) (after-lengths bs), right .0)
 
   head-size : (i : ℕ) → i + 1 < length bs → size16 (word16 bs i) ≡ getD bs i 0 ∷ getD bs (i + 1) 0 ∷ []
   head-size i h = size-word _ _ (all-getD is-byte bs i 0 (omega arith) bytes) (all-getD is-byte bs (i + 1) 0 h bytes)
@@ -93,7 +111,7 @@ module _ (bs : List ℕ) (bytes : Bytes bs) (right : RightSize bs) where
       let ts = texts-in bs in
       let many = ap size16 (length-cut ss ls ts ∙ long-slots) ∙ head-size 0 (omega (arith, right .0)) in
       let long = ap size16 long-pattern ∙ head-size 2 (omega (arith, right .0)) in
-      let byte-lengths = all-take is-byte (2 * count bs) (after-slots bs) (all-drop is-byte (count bs) (body bs) (all-drop is-byte 4 bs bytes)) in
+      let byte-lengths = all-take is-byte (2 * count bs) (after-slots bs) (byte-rest bs bytes) in
       let a = slots-cut ss ls ts in
       let b = lengths-cut ss ls ts (omega (arith, long-lengths, long-slots)) (omega (arith, sum-texts)) byte-lengths in
       let c = texts-cut ss ls ts sum-texts in

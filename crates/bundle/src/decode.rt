@@ -1,11 +1,12 @@
 // Takes a bundle apart, or refuses it for its size.
 ghost use mathlib.Core.Path.{_≡_};
-ghost use Prim.Native.Nat.{_+_, _*_};
-ghost use lib.ListN.{take, drop};
 ghost use Rattle.std.specs.Results.{Cases};
+ghost use Rattle.std.specs.Vec.{made};
+ghost use Rattle.std.specs.shelf.Lists.{All};
+ghost use Rattle.folding.specs.Texts.{Bytes};
 ghost use Rattle.bundle.specs.Handed.{pattern-of, strips-of, left};
 ghost use Rattle.bundle.specs.Laws.{OneReading, Granted};
-ghost use Rattle.bundle.specs.Layout.{written};
+ghost use Rattle.bundle.specs.Layout.{OfBytes, written};
 ghost use Rattle.bundle.specs.Sizes.{announced, RightSize};
 ghost use Rattle.bundle.specs.Wrong.{wrong-size};
 use crate::bytes;
@@ -37,7 +38,8 @@ fn announced(input: &[u8]) -> usize
 }
 
 fn parted<'a>(input: &'a [u8]) -> Bundle<'a>
-    ensures { λ r. ⌜ (RightSize (now (input .entry)) → now (input .entry) ≡ written (pattern-of r) (strips-of r)) ⌝ }
+    ensures bytes { λ r. ⌜ Bytes (pattern-of r) × All OfBytes (strips-of r) ⌝ }
+    ensures whole { λ r. ⌜ (RightSize (now (input .entry)) → now (input .entry) ≡ written (pattern-of r) (strips-of r)) ⌝ }
 {
     let n = bytes::word(input, 0);
     let p = bytes::word(input, 2);
@@ -57,6 +59,7 @@ impl<'a> Bundle<'a> {
     // A longer input counts as one byte more than the limit, since nobody need read on to refuse it.
     pub fn decode(input: &'a [u8]) -> Result<Bundle<'a>, Fault>
         ensures cases { λ r. ⌜ Cases r (λ b. RightSize (now (input .entry)) × (now (input .entry) ≡ written (pattern-of b) (strips-of b))) (λ f. (RightSize (now (input .entry)) → ⊥) × (f ≡ wrong-size (now (input .entry)))) ⌝ }
+        ensures bytes { λ r. ⌜ made r (λ b. Bytes (pattern-of b) × All OfBytes (strips-of b)) ⌝ }
         ensures one_reading { λ _. ⌜ OneReading ⌝ }
         ensures granted { λ _. ⌜ Granted ⌝ }
     {

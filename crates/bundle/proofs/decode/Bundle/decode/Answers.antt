@@ -10,7 +10,7 @@ use Rattle.bundle.proofs.decode.Bundle.decode.Needs.{else-input-le-LIMIT·by·
 pub returns-then-input-announced : need.returns-then-input-announced
 returns-then-input-announced c =
     let right : RightSize (c .args .input .now) = (c .if-input-announced .taken ∙ c .announced .ensures, c .if-input-le-LIMIT .taken) in
-    record { cases = (right, c .parted .ensures right); one-reading = one-reading; granted = granted }
+    record { cases = (right, c .parted .ensures .whole right); bytes = c .parted .ensures .bytes; one-reading = one-reading; granted = granted }
 
 pub returns-else-input-le-LIMIT : need.returns-else-input-le-LIMIT
 returns-else-input-le-LIMIT c = record {
@@ -22,6 +22,7 @@ returns-else-input-le-LIMIT c = record {
         ],
     ap (λ k. record { refusal = BundleSize; layer = Bundle; place = k }) (c .min .ensures),
   );
+  bytes = tt;
   one-reading = one-reading;
   granted = granted;
 }
