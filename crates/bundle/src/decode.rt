@@ -1,5 +1,6 @@
 // Takes a bundle apart, or refuses it for its size.
 ghost use mathlib.Core.Path.{_≡_};
+ghost use Rattle.std.specs.Orderings.{Decides};
 ghost use Rattle.std.specs.Results.{Cases};
 ghost use Rattle.std.specs.Vec.{made};
 ghost use Rattle.std.specs.shelf.Lists.{All};
@@ -37,6 +38,12 @@ fn announced(input: &[u8]) -> usize
     size
 }
 
+fn right_size(input: &[u8]) -> bool
+    ensures { λ r. ⌜ Decides r (RightSize (now (input .entry))) ⌝ }
+{
+    input.len() <= LIMIT && input.len() == announced(input)
+}
+
 fn parted<'a>(input: &'a [u8]) -> Bundle<'a>
     ensures bytes { λ r. ⌜ Bytes (pattern-of r) × All OfBytes (strips-of r) ⌝ }
     ensures whole { λ r. ⌜ (RightSize (now (input .entry)) → now (input .entry) ≡ written (pattern-of r) (strips-of r)) ⌝ }
@@ -63,7 +70,7 @@ impl<'a> Bundle<'a> {
         ensures one_reading { λ _. ⌜ OneReading ⌝ }
         ensures granted { λ _. ⌜ Granted ⌝ }
     {
-        if input.len() <= LIMIT && input.len() == announced(input) {
+        if right_size(input) {
             Ok(parted(input))
         } else {
             Err(Fault {

@@ -49,7 +49,8 @@ fn refuses_other_sizes() -> Result<(), Fail> {
     check(refused_at(b"\x00\x01\x00\x00", 4)).note("a slot past the end")?;
     check(refused_at(b"\x00\x00\xff\xff.", 5)).note("a pattern past the end")?;
     check(refused_at(b"\x00\x01\x00\x00\x05\x00\x02x", 8)).note("a text past the end")?;
-    check(refused_at(b"\x00\x00\x00\x00\x00", 5)).note("a byte too many")
+    check(refused_at(b"\x00\x00\x00\x00\x00", 5)).note("a byte too many")?;
+    check(Bundle::decode(b"\x00\x00\x00\x00").is_ok()).note("no pattern and no strips")
 }
 
 // The head announces as many pattern bytes as the input has room for.
