@@ -1,5 +1,5 @@
 -- The two laws of the layout. Assumes nothing.
-use mathlib.Core.Path.{_≡_, sym, ap, _∙_}
+use mathlib.Core.Path.{_≡_, refl, sym, ap, _∙_}
 use mathlib.Core.List.{List, _++_}
 use Prim.Native.Nat.{ℕ, _+_, _*_}
 use native.Mathlib.Omega.{arith}
@@ -14,11 +14,11 @@ use Rattle.bundle.proofs.Words.{word-size, sum-past}
 
 front-same : (xs us ys vs : List ℕ) → length xs ≡ length us → xs ++ ys ≡ us ++ vs → xs ≡ us
 front-same xs us ys vs long e =
-    sym (take-at xs ys (length us) long) ∙ ap (take (length us)) e ∙ take-at us vs (length us) (λ _. length us)
+    sym (take-at xs ys (length us) long) ∙ ap (take (length us)) e ∙ take-at us vs (length us) refl
 
 back-same : (xs us ys vs : List ℕ) → length xs ≡ length us → xs ++ ys ≡ us ++ vs → ys ≡ vs
 back-same xs us ys vs long e =
-    sym (drop-at xs ys (length us) long) ∙ ap (drop (length us)) e ∙ drop-at us vs (length us) (λ _. length us)
+    sym (drop-at xs ys (length us) long) ∙ ap (drop (length us)) e ∙ drop-at us vs (length us) refl
 
 long-slots : (ss : List Piece) → length (slots ss) ≡ length ss
 long-slots ss = length-map ss (λ s. s .slot)
@@ -42,12 +42,14 @@ length-written : (p : List ℕ) (ss : List Piece) → length (written p ss) ≡ 
 length-written p ss =
     omega (arith, long-slots ss, length-lengths ss, length-append (slots ss) (lengths ss ++ (p ++ texts ss)), length-append (lengths ss) (p ++ texts ss), length-append p (texts ss))
 
+sum-written : (p : List ℕ) (ss : List Piece) → sum16 (written p ss) (4 + length ss) (length ss) ≡ length (texts ss)
+sum-written p ss =
+    let head = size16 (length ss) ++ (size16 (length p) ++ slots ss) in
+    let tail = p ++ texts ss in
+    sum-past head (lengths ss ++ tail) (4 + length ss) (length ss) (omega (arith, long-slots ss)) ∙ sum-lengths ss tail
+
 pub granted : Granted
 granted p ss short =
-    let bs = written p ss in
-    let n = length ss in
-    let head = size16 n ++ (size16 (length p) ++ slots ss) in
-    let many : count bs ≡ n = word-size n in
-    let sums : sum16 bs (4 + count bs) (count bs) ≡ length (texts ss) =
-    ap (λ k. sum16 bs (4 + k) k) many ∙ sum-past head (lengths ss ++ (p ++ texts ss)) (4 + n) n (omega (arith, long-slots ss)) ∙ sum-lengths ss (p ++ texts ss) in
+    let many : count (written p ss) ≡ length ss = word-size (length ss) in
+    let sums = ap (λ n. sum16 (written p ss) (4 + n) n) many ∙ sum-written p ss in
     (omega (arith, length-written p ss, many, word-size (length p), sums), short)

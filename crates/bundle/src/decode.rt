@@ -82,13 +82,13 @@ impl<'a> Bundle<'a> {
     }
 
     pub fn pattern(&self) -> &'a [u8]
-        ensures { λ r. ⌜ now r ≡ pattern-of (now (self .entry)) ⌝ }
+        ensures value { λ r. ⌜ now r ≡ pattern-of (now (self .entry)) ⌝ }
     {
         self.pattern
     }
 
     pub fn strips(&self) -> Strips<'a>
-        ensures { λ r. ⌜ left r ≡ strips-of (now (self .entry)) ⌝ }
+        ensures value { λ r. ⌜ left r ≡ strips-of (now (self .entry)) ⌝ }
     {
         self.strips
     }
