@@ -1,0 +1,6 @@
+// Bundles: a pattern and the numbered strips of a text in one run of bytes; docs/bundles.md has the layout.
+mod bytes;
+pub mod decode;
+#[cfg(test)]
+mod tests;
+pub mod walk;
