@@ -1,4 +1,5 @@
-pub mod Words
 pub mod Cuts
+pub mod Filings
 pub mod Laws
 pub mod Parted
+pub mod Words

@@ -1,6 +1,9 @@
-pub mod Layout
-pub mod Sizes
-pub mod Laws
 pub mod Cuts
+pub mod Filing
 pub mod Handed
+pub mod Laws
+pub mod Layout
+pub mod Lines
+pub mod Outcome
+pub mod Sizes
 pub mod Wrong

@@ -3,7 +3,7 @@ use mathlib.Core.Path.{_≡_, refl, sym, ap, subst, _∙_}
 use mathlib.Core.List.{List, [], _∷_, map}
 use mathlib.Core.Bool.{true}
 use mathlib.Core.Logic.{⊎-elim}
-use Prim.Native.Nat.{ℕ, zero, suc, _^_, _≤_}
+use Prim.Native.Nat.{ℕ, zero, suc, _*_, _^_, _≤_}
 use native.Mathlib.Omega.{arith}
 use lib.ListN.{length, take, set, replicate, length-take, length-map}
 use Rattle.std.proofs.shelf.Elements.{all-set}
@@ -11,6 +11,8 @@ use Rattle.std.proofs.shelf.Lists.{map-set, take-replicate, nil-from-length}
 use Rattle.std.specs.Options.{valueOr}
 use Rattle.std.specs.declared.option.Option.{Option}
 use Rattle.std.specs.declared.option.Option.the-variants.{None, Some}
+use Rattle.std.proofs.shelf.Tests.{eq-eqb}
+use Rattle.fault.specs.declared.Refusal.the-variants.{TableLength}
 use Rattle.folding.specs.Cells.{cells}
 use Rattle.folding.specs.Tallies.{tally}
 use Rattle.folding.specs.Keeping.{half, Gathers}
@@ -18,7 +20,7 @@ use Rattle.folding.specs.Texts.{Bytes, AllBytes, together}
 use Rattle.folding.proofs.Entries.{length-cells, half-cells}
 use Rattle.roll.specs.Plain.{Plain, texts, whole, mark, marks}
 use Rattle.roll.specs.Sizes.{sized}
-use Rattle.roll.specs.Refusals.{Call, refusal}
+use Rattle.roll.specs.Refusals.{Call, fault, unless, first, tables, refusal}
 use Rattle.roll.specs.Stands.{State, slots, Stands}
 use Rattle.roll.specs.Steps.{refusalAt}
 use Rattle.roll.specs.declared.roll.Roll.{Roll}
@@ -37,6 +39,15 @@ module _ {L : Type 0} {leg : List ℕ → L} {s : State L} {p : Plain} (stands :
 
   pub stands-refusal : (c : Call) → refusalAt s c ≡ refusal (marks p) c (length (s .legs)) (length (s .tallies))
   stands-refusal c = ap (λ x. refusal x c (length (s .legs)) (length (s .tallies))) (stands .held)
+
+  -- the lent tables are those of its slots
+  pub stands-tables : tables (length (slots (s .roll))) (length (s .legs)) (length (s .tallies)) ≡ None
+  stands-tables =
+      let same = length-map p (λ o. valueOr o []) in
+      let size = length-slots (s .roll) ∙ stands-size in
+      let legs : length (s .legs) ≡ 2 * length (slots (s .roll)) = let long = ap length (stands .legs) ∙ length-cells leg (texts p) in omega arith in
+      let tallies : length (s .tallies) ≡ 2 * length (slots (s .roll)) = let long = ap length (stands .tallies) ∙ length-cells tally (texts p) in omega arith in
+      (λ i. first (unless (eq-eqb _ _ legs i) (fault TableLength 0)) (unless (eq-eqb _ _ tallies i) (fault TableLength 1)))
 
   pub length-texts : length (texts p) ≡ s .roll .size
   length-texts = length-map p _ ∙ sym stands-size
