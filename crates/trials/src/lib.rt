@@ -1,0 +1,5 @@
+// Trials of the library: small judging machines, and tests.
+#[cfg(test)]
+mod rolls;
+pub mod thirds;
+pub mod zeroless;
