@@ -78,8 +78,8 @@ pub fn fold<F: Folding>(folding: &F, cells: &[F::Leg]) -> F::Leg
 {
     let n = cells.len() / 2;
     let mut all = folding.empty();
-    for s in 0..n {
-        all = folding.join(&all, &cells[n + s]);
+    for slot in 0..n {
+        all = folding.join(&all, &cells[n + slot]);
     }
     all
 }

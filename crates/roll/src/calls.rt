@@ -1,7 +1,9 @@
 // The calls of a roll. With each are lent 2N legs and 2N tallies, where the roll has N slots.
 ghost use mathlib.Core.Path.{_≡_};
 ghost use Prim.Native.Nat.{ℕ, _≤_};
-ghost use lib.ListN.{length};
+ghost use mathlib.Core.List.{List};
+ghost use Rattle.std.specs.Orderings.{Decides};
+ghost use Rattle.folding.specs.Texts.{Bytes};
 ghost use Rattle.std.specs.Results.{errPart};
 ghost use Rattle.roll.specs.Calls.{done, tallied, judged, named};
 ghost use Rattle.roll.specs.Law.{Law};
@@ -52,6 +54,13 @@ fn fitting(n: usize, legs: usize, tallies: usize) -> Result<(), Fault>
         return Err(refuse(Refusal::TableLength, 1));
     }
     Ok(())
+}
+
+// Whether the machine means the text of this leg.
+fn judge<M: Judging>(machine: &M, at: &M::Leg) -> bool
+    ensures cases { λ r. ⌜ ((w : List ℕ) → Bytes w → now (at .entry) ≡ M·Folding .leg (now (machine .entry)) w → Decides r (M·Judging .means (now (machine .entry)) w)) ⌝ }
+{
+    machine.accepts(at)
 }
 
 impl Roll {
@@ -142,7 +151,7 @@ impl Roll {
         ensures does { λ r. ⌜ Does (M·Folding .leg (now (machine .entry))) (M·Judging .means (now (machine .entry))) (state (now (self .entry)) (now (legs .entry)) (now (tallies .entry))) verdict (heard judged r) (state (now (self .entry)) (now (legs .entry)) (now (tallies .entry))) ⌝ }
     {
         fitting(self.size, legs.len(), tallies.len())?;
-        Ok(machine.accepts(&cells::whole(machine, legs)))
+        Ok(judge(machine, &cells::whole(machine, legs)))
     }
 
     // The tally of the joined text.

@@ -1,4 +1,5 @@
 // Trials of the library: small judging machines, and tests.
+mod filing;
 #[cfg(test)]
 mod rolls;
 pub mod thirds;

@@ -1,5 +1,6 @@
 // Rolls run over the small machines: strips out of order, corrected, withdrawn, with refused calls
 // between and the questions after each. The expected answers are worked out from the texts.
+use crate::filing::file;
 use crate::thirds::Thirds;
 use crate::thirds::ThirdsFolding;
 use crate::thirds::ThirdsJudging;
@@ -11,7 +12,6 @@ use fault::FaultDebug;
 use fault::FaultPartialEq;
 use fault::Layer;
 use fault::Refusal;
-use folding::fold::Folding;
 use folding::fold::Judging;
 use folding::tally::Tally;
 use folding::tally::TallyDebug;
@@ -28,23 +28,6 @@ fn refused(refusal: Refusal, place: usize) -> Fault {
         refusal,
         layer: Layer::Roll,
         place,
-    }
-}
-
-// A strip with this text, filed.
-fn file<M: Judging>(
-    roll: &mut Roll,
-    machine: &M,
-    legs: &mut [M::Leg],
-    tallies: &mut [Tally],
-    slot: usize,
-    text: &[u8],
-) -> Result<Tally, Fault> {
-    let mut strip = begin(machine);
-    feed(machine, &mut strip, text)?;
-    match roll.file(machine, legs, tallies, slot, strip) {
-        Ok(tally) => Ok(tally),
-        Err(back) => Err(back.fault),
     }
 }
 

@@ -6,7 +6,7 @@ use Rattle.folding.specs.Cells.{cells}
 use Rattle.folding.specs.Texts.{AllBytes, together}
 use Rattle.folding.proofs.cells.fold.Given as given
 
-abbrev pub Inv-loop-s : given.InvT-loop-s
-Inv-loop-s g l =
+abbrev pub Inv-loop-slot : given.InvT-loop-slot
+Inv-loop-slot g l =
     let leg = g .F·Folding .leg (l .folding) in
-    (slots : List (List ℕ)) → AllBytes slots → l .cells ≡ cells leg slots → l .all ≡ leg (together (take (l .s) slots))
+    (slots : List (List ℕ)) → AllBytes slots → l .cells ≡ cells leg slots → l .all ≡ leg (together (take (l .slot) slots))

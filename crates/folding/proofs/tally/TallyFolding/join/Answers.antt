@@ -3,5 +3,5 @@ use Rattle.folding.proofs.tally.TallyFolding.join.Needs as need
 
 pub returns : need.returns
 returns c = record {
-  joins = λ v w _ _ first second. tally-joined v w _ _ _ first second (c .saturating-add .ensures) (c .saturating-add-2 .ensures);
+  joins = λ v w _ _ first second. tally-joined v w _ _ _ first second (c .capped .ensures .value) (c .capped-2 .ensures .value);
 }
