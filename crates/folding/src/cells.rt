@@ -89,10 +89,9 @@ pub fn whole<F: Folding>(folding: &F, cells: &[F::Leg]) -> F::Leg
     ensures value { λ r. ⌜ ((k : ℕ) → half (now (cells .entry)) ≡ 2 ^ k → Gathers (F·Folding .leg (now (folding .entry))) (now (cells .entry)) r) ⌝ }
     ensures none { λ r. ⌜ (length (now (cells .entry)) ≤ 1 → r ≡ F·Folding .leg (now (folding .entry)) []) ⌝ }
 {
-    if cells.len() > 1 {
-        cells[1]
-    } else {
-        folding.empty()
+    match cells.get(1) {
+        Some(root) => *root,
+        None => folding.empty(),
     }
 }
 
