@@ -1,0 +1,5 @@
+pub mod Chars
+pub mod Runs
+pub mod ClassRuns
+pub mod CountRuns
+pub mod Completes

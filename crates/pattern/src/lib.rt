@@ -1,0 +1,1 @@
+// Patterns: how they are written, read and refused, and what they mean.
