@@ -86,7 +86,7 @@ module _ (fr : Frame) (d : ℕ) (ctx : List Frame) where
       ∙ members-run ms (u ++ w) (member-no-hyphen m w)
       ∙ member-runs m rs w h
 
-  ends-class : (rs : List Range) → 0 < length rs → (w : List ℕ) → verdict (at rs fresh) (93 ∷ w) ≡ verdict (state (after (one rs)) fr d ctx) w
+  pub ends-class : (rs : List Range) → 0 < length rs → (w : List ℕ) → verdict (at rs fresh) (93 ∷ w) ≡ verdict (state (after (one rs)) fr d ctx) w
   ends-class [] some w = absurd (omega arith)
   ends-class (r ∷ rs) some w = verdict-alive (at (r ∷ rs) fresh) _ 93 w refl
 

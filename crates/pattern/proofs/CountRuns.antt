@@ -27,7 +27,7 @@ module _ (f : Regex) (fr : Frame) (d : ℕ) (ctx : List Frame) where
   begins s k w small can =
       verdict-alive _ _ (48 + k) w (ap (λ t. ofCount (countNext t (awaiting s)) f fr d ctx) (digit-kind k small) ∙ ap (λ n. ofCount n f fr d ctx) (cond-true _ _ _ can))
 
-  goes-on : (s : Stage) (n k : ℕ) (w : List ℕ) → k < 10 → canGoOn (bound s) n k ≡ true → verdict (at (digits s n)) ((48 + k) ∷ w) ≡ verdict (at (digits s (10 * n + k))) w
+  pub goes-on : (s : Stage) (n k : ℕ) (w : List ℕ) → k < 10 → canGoOn (bound s) n k ≡ true → verdict (at (digits s n)) ((48 + k) ∷ w) ≡ verdict (at (digits s (10 * n + k))) w
   goes-on s n k w small can =
       verdict-alive _ _ (48 + k) w (ap (λ t. ofCount (countNext t (digits s n)) f fr d ctx) (digit-kind k small) ∙ ap (λ n. ofCount n f fr d ctx) (cond-true _ _ _ can))
 

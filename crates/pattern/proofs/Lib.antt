@@ -3,3 +3,7 @@ pub mod Runs
 pub mod ClassRuns
 pub mod CountRuns
 pub mod Completes
+pub mod Seen
+pub mod ClassSeen
+pub mod CountSeen
+pub mod Steps
