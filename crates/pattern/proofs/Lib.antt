@@ -7,3 +7,6 @@ pub mod Seen
 pub mod ClassSeen
 pub mod CountSeen
 pub mod Steps
+pub mod Sounds
+pub mod Endings
+pub mod Faults
