@@ -54,8 +54,8 @@ goes b small k is told rs inEscape v y ms part =
 goes b small k is told rs (dashedEscape a) v y ms part =
     cond-both (escapable b && leb a b) _ _ (λ n. Goes n (v ++ y) b)
     (λ e.
-        let both = and-parts _ _ e in
-        (v ++ (part .0 ++ 45 ∷ (92 ∷ (b ∷ []))), [], append-assoc v y _ ∙ ap (λ l. v ++ l) (ap (λ l. l ++ b ∷ []) (part .1) ∙ append-assoc (part .0) _ _) ∙ sym (append-nil _), more ms (range (part .2) (escaped (both .0)) (leb-true a b (both .1))), refl))
+    let both = and-parts _ _ e in
+    (v ++ (part .0 ++ 45 ∷ (92 ∷ (b ∷ []))), [], append-assoc v y _ ∙ ap (λ l. v ++ l) (ap (λ l. l ++ b ∷ []) (part .1) ∙ append-assoc (part .0) _ _) ∙ sym (append-nil _), more ms (range (part .2) (escaped (both .0)) (leb-true a b (both .1))), refl))
     (λ _. tt)
 
 pub class-goes : (b : ℕ) → b < 256 → (rs : List Range) (c : ClassState) (t : List ℕ) → Class rs c t → Goes (classNext (classKind b) b rs c) t b

@@ -50,22 +50,23 @@ module _ (G : List ℕ → Regex → Type 0) (d : ℕ) (group-runs : (v : List �
       ap (verdict _) (append-assoc v u w) ∙ branch-runs b s ctx (u ++ w) (piece-no-repeat p w) ∙ piece-runs p (frame s e) ctx w h
 
   alternatives-run : {v : List ℕ} {e : Regex} → Alternatives G v e → (ctx : List Frame) (w : List ℕ) → NoRepeat w
-    → (fr : Frame) × (closed fr ≡ e) × (verdict (state ready opened d ctx) (v ++ w) ≡ verdict (state ready fr d ctx) w)
+      → (fr : Frame) × (closed fr ≡ e) × (verdict (state ready opened d ctx) (v ++ w) ≡ verdict (state ready fr d ctx) w)
   alternatives-run (lone {e = e} b) ctx w h = (frame first e, refl, branch-runs b first ctx w h)
   alternatives-run (also {v = v} {w = u} {f = f} a b) ctx w h =
-      let before = alternatives-run a ctx (124 ∷ (u ++ w)) refl in
-      (frame (later (closed (before .0))) f,
-       ap (λ x. alt x f) (before .1),
-       ap (verdict _) (append-assoc v (124 ∷ u) w) ∙ before .2 ∙ verdict-alive _ _ 124 _ refl ∙ branch-runs b (later (closed (before .0))) ctx w h)
+      let before = alternatives-run a ctx (124 ∷ (u ++ w)) refl in (
+        frame (later (closed (before .0))) f,
+        ap (λ x. alt x f) (before .1),
+        ap (verdict _) (append-assoc v (124 ∷ u) w) ∙ before .2 ∙ verdict-alive _ _ 124 _ refl ∙ branch-runs b (later (closed (before .0))) ctx w h,
+      )
 
 written-runs : (d : ℕ) (v : List ℕ) (e : Regex) → Written d v e → (ctx : List Frame) (w : List ℕ) → NoRepeat w
-  → (fr : Frame) × (closed fr ≡ e) × (verdict (state ready opened d ctx) (v ++ w) ≡ verdict (state ready fr d ctx) w)
+    → (fr : Frame) × (closed fr ≡ e) × (verdict (state ready opened d ctx) (v ++ w) ≡ verdict (state ready fr d ctx) w)
 written-runs zero v e a ctx w h = alternatives-run (λ _ _. ⊥) zero (λ _ _ g. absurd g) a ctx w h
 written-runs (suc d) v e a ctx w h =
     alternatives-run (Written d) (suc d)
     (λ u f g fr over rest.
-        let inner = written-runs d u f g (fr ∷ over) (41 ∷ rest) refl in
-        verdict-alive _ _ 40 _ refl ∙ inner .2 ∙ verdict-alive _ _ 41 rest refl ∙ ap (λ x. verdict (state (after x) fr (suc d) over) rest) (inner .1))
+    let inner = written-runs d u f g (fr ∷ over) (41 ∷ rest) refl in
+    verdict-alive _ _ 40 _ refl ∙ inner .2 ∙ verdict-alive _ _ 41 rest refl ∙ ap (λ x. verdict (state (after x) fr (suc d) over) rest) (inner .1))
     a ctx w h
 
 pub completes : (w : List ℕ) (e : Regex) → Written 16 w e → verdict start w ≡ good e

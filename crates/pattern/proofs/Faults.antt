@@ -35,7 +35,7 @@ stopped : (w p : List ℕ) (n k : ℕ) (s : State) → k ≡ 0 → length p - n 
 stopped w p n k s none is le seen = (le, s, subst (λ j. Seen s (w ++ take j p)) (sym (is ∙ none)) (subst (Seen s) (sym (append-nil w)) seen))
 
 onward-stops : (n : Next) (s : State) (w p : List ℕ) (b m : ℕ) → Seen s w → Goes n (w ++ b ∷ []) → ((t : State) → Seen t (w ++ b ∷ []) → verdict t p ≡ bad m → Reached (w ++ b ∷ []) p m)
-  → onward n p ≡ bad m → Reached w (b ∷ p) m
+    → onward n p ≡ bad m → Reached w (b ∷ p) m
 onward-stops dead s w p b m seen goes rest is = let all = same-bad _ m is in stopped w (b ∷ p) m 0 s refl (omega arith) (omega arith) seen
 onward-stops (alive t) s w p b m seen goes rest is =
     let (le, u, on) = rest t goes is in

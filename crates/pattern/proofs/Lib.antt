@@ -10,3 +10,6 @@ pub mod Steps
 pub mod Sounds
 pub mod Endings
 pub mod Faults
+pub mod Slices
+pub mod Numbers
+pub mod CountWays

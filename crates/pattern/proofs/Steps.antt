@@ -34,7 +34,7 @@ glue : (w o u t r : List ℕ) → w ≡ o ++ (u ++ t) → w ++ r ≡ o ++ (u ++ 
 glue w o u t r is = ap (λ l. l ++ r) is ∙ append-assoc o (u ++ t) r ∙ ap (λ l. o ++ l) (append-assoc u t r)
 
 begin-goes : (b : ℕ) → b < 256 → (k : Kind) → kind b ≡ k → Has k b → (fr : Frame) (d : ℕ) (ctx : List Frame) (w o u : List ℕ)
-  → w ≡ o ++ u → Around d ctx o → Open d fr u → Goes (begin k b fr d ctx) (w ++ b ∷ [])
+    → w ≡ o ++ u → Around d ctx o → Open d fr u → Goes (begin k b fr d ctx) (w ++ b ∷ [])
 begin-goes b small bar is has fr d ctx w o u e around within =
     (o, u ++ 124 ∷ [], [], (λ i. e i ++ has i ∷ []) ∙ append-assoc o u _ ∙ ap (λ l. o ++ l) (sym (append-nil _)), around, (u, [], refl, shut d fr u within, nothing), refl)
 begin-goes b small times is has fr d ctx w o u e around within = tt
@@ -44,10 +44,15 @@ begin-goes b small open′ is has fr zero ctx w o u e around within = tt
 begin-goes b small open′ is has fr (suc d) ctx w o u e around within =
     (o ++ (u ++ 40 ∷ []), [], [], (λ i. e i ++ has i ∷ []) ∙ append-assoc o u _ ∙ sym (append-nil _), (o, u, refl, around, within), nothing, refl)
 begin-goes b small close′ is has fr d [] w o u e around within = tt
-begin-goes b small close′ is has fr d (f ∷ ctx) w o u e (p, v, before, around, outer) within =
-    (p, v, 40 ∷ (u ++ 41 ∷ []),
-     (λ i. e i ++ has i ∷ []) ∙ append-assoc o u _ ∙ ap (λ l. l ++ (u ++ 41 ∷ [])) before ∙ append-assoc p _ _ ∙ ap (λ l. p ++ l) (append-assoc v (40 ∷ []) _),
-     around, outer, a-group (written-is d u (closed fr) (shut d fr u within)))
+begin-goes b small close′ is has fr d (f ∷ ctx) w o u e (p, v, before, around, outer) within = (
+  p,
+  v,
+  40 ∷ (u ++ 41 ∷ []),
+  (λ i. e i ++ has i ∷ []) ∙ append-assoc o u _ ∙ ap (λ l. l ++ (u ++ 41 ∷ [])) before ∙ append-assoc p _ _ ∙ ap (λ l. p ++ l) (append-assoc v (40 ∷ []) _),
+  around,
+  outer,
+  a-group (written-is d u (closed fr) (shut d fr u within)),
+)
 begin-goes b small square is has fr d ctx w o u e around within =
     (o, u, 91 ∷ [], (λ i. e i ++ has i ∷ []) ∙ append-assoc o u _, around, within, ([], refl, ([], [], refl, none, refl)))
 begin-goes b small unsquare is has fr d ctx w o u e around within = tt
@@ -62,7 +67,7 @@ repeated-goes w o u t r f g fr d ctx is around within atom rep =
     (o, u ++ (t ++ r), [], glue w o u t r is ∙ ap (λ l. o ++ l) (sym (append-nil _)), around, grow d fr u (t ++ r) g within (repeated atom rep), refl)
 
 after-goes : (b : ℕ) → b < 256 → (k : Kind) → kind b ≡ k → Has k b → (f : Regex) (fr : Frame) (d : ℕ) (ctx : List Frame) (w o u t : List ℕ)
-  → w ≡ o ++ (u ++ t) → Around d ctx o → Open d fr u → Atom (Group d) t f → Goes (repeatOr k b f fr d ctx) (w ++ b ∷ [])
+    → w ≡ o ++ (u ++ t) → Around d ctx o → Open d fr u → Atom (Group d) t f → Goes (repeatOr k b f fr d ctx) (w ++ b ∷ [])
 after-goes b small times is has f fr d ctx w o u t e around within atom = subst (λ x. Goes (repeatOr times x f fr d ctx) (w ++ x ∷ [])) (sym has) (repeated-goes w o u t _ f _ fr d ctx e around within atom by-star)
 after-goes b small add is has f fr d ctx w o u t e around within atom = subst (λ x. Goes (repeatOr add x f fr d ctx) (w ++ x ∷ [])) (sym has) (repeated-goes w o u t _ f _ fr d ctx e around within atom by-plus)
 after-goes b small query is has f fr d ctx w o u t e around within atom = subst (λ x. Goes (repeatOr query x f fr d ctx) (w ++ x ∷ [])) (sym has) (repeated-goes w o u t _ f _ fr d ctx e around within atom by-opt)
@@ -79,7 +84,7 @@ after-goes b small backslash is has f fr d ctx w o u t e around within atom = be
 after-goes b small plain is has f fr d ctx w o u t e around within atom = begin-goes b small plain is has (push f fr) d ctx w o (u ++ t) e around (grow d fr u t f within (once atom))
 
 class-steps : (b : ℕ) (n : ClassNext) (fr : Frame) (d : ℕ) (ctx : List Frame) (w o u t v : List ℕ)
-  → w ≡ o ++ (u ++ t) → Around d ctx o → Open d fr u → t ≡ 91 ∷ v → ClassGoes n v b → Goes (ofClass n fr d ctx) (w ++ b ∷ [])
+    → w ≡ o ++ (u ++ t) → Around d ctx o → Open d fr u → t ≡ 91 ∷ v → ClassGoes n v b → Goes (ofClass n fr d ctx) (w ++ b ∷ [])
 class-steps b noClass fr d ctx w o u t v e around within is goes = tt
 class-steps b (inside rs c) fr d ctx w o u t v e around within is goes =
     (o, u, t ++ b ∷ [], glue w o u t _ e, around, within, (v ++ b ∷ [], ap (λ l. l ++ b ∷ []) is, goes))
@@ -87,14 +92,19 @@ class-steps b (finished rs) fr d ctx w o u t v e around within is (ends, some, m
     (o, u, t ++ b ∷ [], glue w o u t _ e, around, within, subst (λ l. Atom (Group d) l (one rs)) (sym (λ i. is i ++ ends i ∷ [])) (a-class ms some))
 
 count-steps : (b : ℕ) (n : CountNext) (f : Regex) (fr : Frame) (d : ℕ) (ctx : List Frame) (w o u t v y : List ℕ)
-  → w ≡ o ++ (u ++ t) → Around d ctx o → Open d fr u → t ≡ v ++ 123 ∷ y → Atom (Group d) v f → CountGoes n y b → Goes (ofCount n f fr d ctx) (w ++ b ∷ [])
+    → w ≡ o ++ (u ++ t) → Around d ctx o → Open d fr u → t ≡ v ++ 123 ∷ y → Atom (Group d) v f → CountGoes n y b → Goes (ofCount n f fr d ctx) (w ++ b ∷ [])
 count-steps b noCount f fr d ctx w o u t v y e around within is atom goes = tt
 count-steps b (counting c) f fr d ctx w o u t v y e around within is atom goes =
     (o, u, t ++ b ∷ [], glue w o u t _ e, around, within, (v, y ++ b ∷ [], ap (λ l. l ++ b ∷ []) is ∙ append-assoc v (123 ∷ y) _, atom, goes))
-count-steps b (counts m n) f fr d ctx w o u t v y e around within is atom goes =
-    (o, u ++ (v ++ 123 ∷ (y ++ b ∷ [])), [],
-     glue w o u t _ e ∙ ap (λ l. o ++ (u ++ l)) (ap (λ l. l ++ b ∷ []) is ∙ append-assoc v (123 ∷ y) _) ∙ ap (λ l. o ++ l) (sym (append-nil _)),
-     around, grow d fr u _ (counted m n f) within (repeated atom (by-count goes)), refl)
+count-steps b (counts m n) f fr d ctx w o u t v y e around within is atom goes = (
+  o,
+  u ++ (v ++ 123 ∷ (y ++ b ∷ [])),
+  [],
+  glue w o u t _ e ∙ ap (λ l. o ++ (u ++ l)) (ap (λ l. l ++ b ∷ []) is ∙ append-assoc v (123 ∷ y) _) ∙ ap (λ l. o ++ l) (sym (append-nil _)),
+  around,
+  grow d fr u _ (counted m n f) within (repeated atom (by-count goes)),
+  refl,
+)
 
 pub step-goes : (s : State) (b : ℕ) (w : List ℕ) → b < 256 → Seen s w → Goes (stepOf s b) (w ++ b ∷ [])
 step-goes (state ready fr d ctx) b w small (o, u, t, e, around, within, sign) =

@@ -5,3 +5,8 @@ pub mod Characters
 pub mod Grammar
 pub mod Beginnings
 pub mod Automaton
+pub mod Refusals
+pub mod Signs
+pub mod Counting
+pub mod Reading
+pub mod Repeats
