@@ -13,3 +13,6 @@ pub mod Faults
 pub mod Slices
 pub mod Numbers
 pub mod CountWays
+pub mod ClassWays
+pub mod ClassLoop
+pub mod SignWays

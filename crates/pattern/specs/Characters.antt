@@ -41,3 +41,10 @@ pub data ClassKind : Type 0 where
 
 abbrev pub classKind : ℕ → ClassKind
 classKind b = cond (eqb b 93) ends (cond (eqb b 92) slash (cond (eqb b 45) hyphen (cond (eqb b 91) barred (cond (eqb b 94) barred itself))))
+
+abbrev pub isItself : ClassKind → Bool
+isItself ends = false
+isItself slash = false
+isItself hyphen = false
+isItself barred = false
+isItself itself = true

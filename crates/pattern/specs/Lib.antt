@@ -10,3 +10,4 @@ pub mod Signs
 pub mod Counting
 pub mod Reading
 pub mod Repeats
+pub mod Classes

@@ -1,4 +1,16 @@
-// The signs that a pattern is made of.
+// The signs that a pattern is made of, read one at a time.
+ghost use mathlib.Core.Path.{_≡_};
+ghost use mathlib.Core.Bool.{true, false};
+ghost use Prim.Native.Nat.{_<_};
+ghost use lib.ListN.{length, getD};
+ghost use Rattle.std.specs.Results.{Cases};
+ghost use Rattle.fault.specs.declared.Refusal.the-variants.{BadlyWritten};
+ghost use Rattle.pattern.specs.Refusals.{refused};
+ghost use Rattle.pattern.specs.Signs.{Handed, SignStops};
+use crate::class;
+use crate::fault_at::badly_written;
+use crate::repeat;
+use fault::Fault;
 
 // Each sign is the part of the pattern that it came from; of a class, what stands between its brackets.
 #[derive(Clone, Copy)]
@@ -15,4 +27,72 @@ pub enum Sign<'a> {
     Open(&'a [u8]),
     Close(&'a [u8]),
     End,
+}
+
+// A repeat stands only after an atom that has none yet.
+fn repeat_sign(sign: Sign, at: usize, after: bool) -> Result<Sign, Fault>
+    ensures cases { λ r. ⌜ Cases r (λ s. (s ≡ sign .entry) × (after ≡ true)) (λ f. (f ≡ refused BadlyWritten at) × (after ≡ false)) ⌝ }
+{
+    if after {
+        Ok(sign)
+    } else {
+        Err(badly_written(at))
+    }
+}
+
+fn counted(p: &[u8], at: usize, after: bool) -> Result<Sign, Fault>
+    requires brace { ⌜ (at < length (now p)) × (getD (now p) at 0 ≡ 123) ⌝ }
+    ensures cases { λ r. ⌜ Cases r (λ s. Handed (now (p .entry)) at after s) (λ f. SignStops (now (p .entry)) at after f) ⌝ }
+{
+    if !after {
+        return Err(badly_written(at));
+    }
+    let (_, end) = repeat::counts(p, at + 1)?;
+    Ok(Sign::Counted(&p[at..end]))
+}
+
+fn class_sign(p: &[u8], at: usize, after: bool) -> Result<Sign, Fault>
+    requires bracket { ⌜ (at < length (now p)) × (getD (now p) at 0 ≡ 91) ⌝ }
+    ensures cases { λ r. ⌜ Cases r (λ s. Handed (now (p .entry)) at after s) (λ f. SignStops (now (p .entry)) at after f) ⌝ }
+{
+    let end = class::end(p, at + 1)?;
+    Ok(Sign::Class(&p[at + 1..end]))
+}
+
+fn escape(p: &[u8], at: usize, after: bool) -> Result<Sign, Fault>
+    requires backslash { ⌜ (at < length (now p)) × (getD (now p) at 0 ≡ 92) ⌝ }
+    ensures cases { λ r. ⌜ Cases r (λ s. Handed (now (p .entry)) at after s) (λ f. SignStops (now (p .entry)) at after f) ⌝ }
+{
+    if at + 1 >= p.len() {
+        return Err(badly_written(at + 1));
+    }
+    if !class::is_escapable(p[at + 1]) {
+        return Err(badly_written(at + 1));
+    }
+    Ok(Sign::Escape(&p[at..at + 2]))
+}
+
+// The sign at `at`, where `after` says that an atom stands before it that can still be repeated.
+pub fn sign_at(p: &[u8], at: usize, after: bool) -> Result<Sign, Fault>
+    ensures cases { λ r. ⌜ Cases r (λ s. Handed (now (p .entry)) at after s) (λ f. SignStops (now (p .entry)) at after f) ⌝ }
+{
+    if at >= p.len() {
+        return Ok(Sign::End);
+    }
+    let byte = &p[at..at + 1];
+    match p[at] as char {
+        '|' => Ok(Sign::Bar(byte)),
+        '*' => repeat_sign(Sign::Star(byte), at, after),
+        '+' => repeat_sign(Sign::Plus(byte), at, after),
+        '?' => repeat_sign(Sign::Question(byte), at, after),
+        '(' => Ok(Sign::Open(byte)),
+        ')' => Ok(Sign::Close(byte)),
+        '[' => class_sign(p, at, after),
+        ']' => Err(badly_written(at)),
+        '{' => counted(p, at, after),
+        '}' => Err(badly_written(at)),
+        '.' => Ok(Sign::Any(byte)),
+        '\\' => escape(p, at, after),
+        _ => Ok(Sign::Plain(byte)),
+    }
 }
