@@ -15,7 +15,7 @@ use Rattle.pattern.proofs.CountRuns.{counts-run}
 pub escape-runs : (b : ℕ) → escapable b ≡ true → (fr : Frame) (d : ℕ) (ctx : List Frame) (w : List ℕ) → verdict (state ready fr d ctx) (92 ∷ (b ∷ w)) ≡ verdict (state (after (one (byte b))) fr d ctx) w
 escape-runs b is fr d ctx w = verdict-alive _ (state escape fr d ctx) 92 _ refl ∙ verdict-alive (state escape fr d ctx) _ b w (cond-true (escapable b) _ _ is)
 
-repeat-runs : {v : List ℕ} {e f : Regex} → Repeated v e f → (fr : Frame) (d : ℕ) (ctx : List Frame) (w : List ℕ) → verdict (state (after e) fr d ctx) (v ++ w) ≡ verdict (state ready (push f fr) d ctx) w
+pub repeat-runs : {v : List ℕ} {e f : Regex} → Repeated v e f → (fr : Frame) (d : ℕ) (ctx : List Frame) (w : List ℕ) → verdict (state (after e) fr d ctx) (v ++ w) ≡ verdict (state ready (push f fr) d ctx) w
 repeat-runs by-star fr d ctx w = verdict-alive _ _ 42 w refl
 repeat-runs by-plus fr d ctx w = verdict-alive _ _ 43 w refl
 repeat-runs by-opt fr d ctx w = verdict-alive _ _ 63 w refl

@@ -16,3 +16,8 @@ pub mod CountWays
 pub mod ClassWays
 pub mod ClassLoop
 pub mod SignWays
+pub mod Caps
+pub mod Walking
+pub mod Groups
+pub mod SignSteps
+pub mod Outcomes

@@ -11,3 +11,4 @@ pub mod Counting
 pub mod Reading
 pub mod Repeats
 pub mod Classes
+pub mod Walks

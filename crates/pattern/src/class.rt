@@ -5,7 +5,7 @@ ghost use lib.ListN.{length};
 ghost use Rattle.std.specs.Results.{Cases};
 ghost use Rattle.pattern.specs.Characters.{escapable, classKind, isItself};
 ghost use Rattle.pattern.specs.Classes.{Follows, ClassRead, ClassStops};
-use crate::fault_at::badly_written;
+use crate::refusal::badly_written;
 use fault::Fault;
 
 // How far the member in hand has come; the byte is its first.

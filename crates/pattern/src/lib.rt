@@ -1,6 +1,10 @@
 // Patterns: how they are written, read and refused, and what they mean.
 mod class;
-mod fault_at;
+mod copy;
 mod places;
+mod reader;
+pub mod record;
+mod refusal;
 mod repeat;
 pub mod sign;
+mod verdict;

@@ -2,19 +2,21 @@
 // number, and a count of 0 around them makes them 0 again.
 ghost use mathlib.Core.Path.{_≡_};
 ghost use mathlib.Core.Bool.{true, false};
-ghost use Prim.Native.Nat.{_+_, _*_, _≤_, min};
+ghost use Prim.Native.Nat.{ℕ, _+_, _*_, min};
 use std::cmp;
-
-const FULL: usize = 64;
 
 // `settled` is of what can no longer be repeated, `last` of the atom that still can be.
 #[derive(Clone, Copy)]
 pub struct Places {
-    pub settled: usize,
-    pub last: usize,
+    pub settled: u8,
+    pub last: u8,
     pub repeatable: bool,
-    ghost settled_fits: { settled ≤ 64 },
-    ghost last_fits: { last ≤ 64 },
+}
+
+fn cap(count: u16) -> u8
+    ensures value { λ r. ⌜ r ≡ min count 64 ⌝ }
+{
+    cmp::min(count, 64) as u8
 }
 
 impl Places {
@@ -28,19 +30,19 @@ impl Places {
         }
     }
 
-    pub fn total(self) -> usize
+    pub fn total(self) -> u8
         ensures value { λ r. ⌜ r ≡ min (self .settled + self .last) 64 ⌝ }
     {
-        cmp::min(self.settled + self.last, FULL)
+        cap(self.settled as u16 + self.last as u16)
     }
 
     // An atom of `count` places comes next.
-    pub fn atom(self, count: usize) -> Places
-        ensures value { λ r. ⌜ (r .settled ≡ min (self .settled + self .last) 64) × (r .last ≡ min count 64) × (r .repeatable ≡ true) ⌝ }
+    pub fn atom(self, count: u8) -> Places
+        ensures value { λ r. ⌜ (r .settled ≡ min (self .settled + self .last) 64) × (r .last ≡ count) × (r .repeatable ≡ true) ⌝ }
     {
         Places {
             settled: self.total(),
-            last: cmp::min(count, FULL),
+            last: count,
             repeatable: true,
         }
     }
@@ -59,9 +61,9 @@ impl Places {
     pub fn repeated(self, copies: u8) -> Places
         ensures value { λ r. ⌜ (r .settled ≡ min (self .settled + copies * self .last) 64) × (r .last ≡ 0) × (r .repeatable ≡ false) ⌝ }
     {
-        let all = self.settled + copies as usize * self.last;
+        let all = self.settled as u16 + copies as u16 * self.last as u16;
         Places {
-            settled: cmp::min(all, FULL),
+            settled: cap(all),
             last: 0,
             repeatable: false,
         }

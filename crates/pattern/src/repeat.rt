@@ -7,7 +7,7 @@ ghost use Rattle.std.specs.Orderings.{Decides};
 ghost use Rattle.std.specs.Results.{Cases};
 ghost use Rattle.pattern.specs.Automaton.{countKind, digit, canBegin, canGoOn};
 ghost use Rattle.pattern.specs.Repeats.{NumberRead, NumberStops, CountsRead, CountsStop};
-use crate::fault_at::badly_written;
+use crate::refusal::badly_written;
 use fault::Fault;
 
 fn digit_at(p: &[u8], at: usize) -> Option<u8>

@@ -1,14 +1,14 @@
 // The signs that a pattern is made of, read one at a time.
 ghost use mathlib.Core.Path.{_≡_};
 ghost use mathlib.Core.Bool.{true, false};
-ghost use Prim.Native.Nat.{_<_};
+ghost use Prim.Native.Nat.{_^_, _<_};
 ghost use lib.ListN.{length, getD};
 ghost use Rattle.std.specs.Results.{Cases};
 ghost use Rattle.fault.specs.declared.Refusal.the-variants.{BadlyWritten};
 ghost use Rattle.pattern.specs.Refusals.{refused};
-ghost use Rattle.pattern.specs.Signs.{Handed, SignStops};
+ghost use Rattle.pattern.specs.Signs.{text, Handed, SignStops};
 use crate::class;
-use crate::fault_at::badly_written;
+use crate::refusal::badly_written;
 use crate::repeat;
 use fault::Fault;
 
@@ -27,6 +27,29 @@ pub enum Sign<'a> {
     Open(&'a [u8]),
     Close(&'a [u8]),
     End,
+}
+
+impl Sign<'_> {
+    // How many bytes of the pattern the sign is.
+    pub(crate) fn len(&self) -> usize
+        requires fits { ⌜ length (text (now self)) < 2 ^ 64 ⌝ }
+        ensures value { λ r. ⌜ r ≡ length (text (now (self .entry))) ⌝ }
+    {
+        match self {
+            Sign::Class(t) => t.len() + 2,
+            Sign::End => 0,
+            Sign::Plain(t) => t.len(),
+            Sign::Escape(t) => t.len(),
+            Sign::Any(t) => t.len(),
+            Sign::Bar(t) => t.len(),
+            Sign::Star(t) => t.len(),
+            Sign::Plus(t) => t.len(),
+            Sign::Question(t) => t.len(),
+            Sign::Counted(t) => t.len(),
+            Sign::Open(t) => t.len(),
+            Sign::Close(t) => t.len(),
+        }
+    }
 }
 
 // A repeat stands only after an atom that has none yet.
