@@ -21,3 +21,4 @@ pub mod Walking
 pub mod Groups
 pub mod SignSteps
 pub mod Outcomes
+pub mod Worked

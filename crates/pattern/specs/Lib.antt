@@ -12,3 +12,4 @@ pub mod Reading
 pub mod Repeats
 pub mod Classes
 pub mod Walks
+pub mod Examples

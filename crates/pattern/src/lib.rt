@@ -1,6 +1,7 @@
 // Patterns: how they are written, read and refused, and what they mean.
 mod class;
 mod copy;
+pub mod examples;
 mod places;
 mod reader;
 pub mod record;

@@ -6,6 +6,7 @@ ghost use Prim.Native.Nat.{_≤_};
 ghost use lib.ListN.{take};
 ghost use Rattle.std.specs.Orderings.{Decides};
 ghost use Rattle.std.specs.Results.{Cases, isOk};
+ghost use Rattle.pattern.specs.Grammar.{One-reading};
 ghost use Rattle.pattern.specs.Reading.{Holds, Readable, Granted, Refused};
 use crate::copy::copied;
 use crate::verdict::judge;
@@ -38,6 +39,7 @@ impl Pattern {
     // The number of places.
     pub fn read(&mut self, bytes: &[u8]) -> Result<u8, Fault>
         ensures cases { λ r. ⌜ Cases r (λ n. Granted (now (bytes .entry)) n × (take (now (self .exit) .len) (now (self .exit) .bytes) ≡ now (bytes .entry))) (λ f. Refused (now (bytes .entry)) f × (take (now (self .exit) .len) (now (self .exit) .bytes) ≡ [])) ⌝ }
+        ensures one_reading { λ _. ⌜ One-reading ⌝ }
         ensures exactly { λ r. ⌜ Decides (isOk r) (Readable (now (bytes .entry))) ⌝ }
     {
         *self = Pattern::new();
