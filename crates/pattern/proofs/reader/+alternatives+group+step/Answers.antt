@@ -1,0 +1,105 @@
+use mathlib.Core.Path.{_≡_, refl}
+use Prim.Native.Nat.{suc, _-_}
+use native.Mathlib.Omega.{arith}
+use Rattle.std.proofs.shelf.Results.{err-from-errBy, cases-at-none}
+use Rattle.pattern.specs.Automaton.{ready, opened}
+use Rattle.pattern.proofs.Groups.{too-deep, inner-stops, unfinished, group-read}
+use Rattle.pattern.proofs.Walking.{head-is, sign-stops, group-stops, walk-stops, walk-all}
+use Rattle.pattern.proofs.SignSteps.{sign-within, begun, plain-of, escape-of, any-of, class-of, bar-of, star-of, opt-of, plus-of, counted-of, counted-refused, group-steps}
+use Rattle.pattern.proofs.reader.+alternatives+group+step.Needs as need
+
+pub alternatives-loop-next-holds : need.alternatives-loop-next-holds
+alternatives-loop-next-holds t c = (omega arith, c .pre .within, record { mode = ready; frame = opened; keeps = c .none-places .ensures .value; runs = λ ctx. refl })
+
+pub alternatives-returns-in-Break-next : need.alternatives-returns-in-Break-next
+alternatives-returns-in-Break-next t c =
+    let p = err-from-errBy (c .from-residual .result) (c .from-residual .ensures .1) in
+    record { cases = rw (p .1, p .2) (walk-stops _ _ _ _ _ _ (c .loop-next .inv .2) (c .in-Break-next .ensures tt .cases)) }
+
+pub alternatives-returns : need.alternatives-returns
+alternatives-returns t c =
+    let (forward, within, walk) = c .loop-next .inv in
+    record { cases = walk-all _ _ _ _ _ _ forward within walk (cases-at-none _ _ (c .in-rest .is) (c .in-Continue-next .ensures tt .cases)) (c .total .ensures .value) }
+
+pub group-returns-then-depth-eq0 : need.group-returns-then-depth-eq0
+group-returns-then-depth-eq0 t c = record { cases = too-deep _ _ (c .pre .paren .0) (c .pre .paren .1) _ _ (c .if-depth-eq0 .taken) (c .badly-written .ensures .value) }
+
+pub group-returns-in-Break-end : need.group-returns-in-Break-end
+group-returns-in-Break-end t c =
+    let p = err-from-errBy (c .from-residual .result) (c .from-residual .ensures .1) in
+    let deep : c .args .depth ≡ suc (c .args .depth - 1) = omega arith in
+    record { cases = rw (p .1, p .2) (inner-stops _ _ (c .pre .paren .0) (c .pre .paren .1) _ _ _ deep (c .in-Break-end .ensures tt .cases)) }
+
+pub group-returns-then-end-p : need.group-returns-then-end-p
+group-returns-then-end-p t c =
+    let deep : c .args .depth ≡ suc (c .args .depth - 1) = omega arith in
+    record { cases = unfinished _ _ (c .pre .paren .0) (c .pre .paren .1) _ _ _ _ _ deep (c .in-Continue-end .ensures tt .cases) (c .if-end-p .taken) (c .badly-written-then-end-p .ensures .value) }
+
+pub group-returns : need.group-returns
+group-returns t c =
+    let deep : c .args .depth ≡ suc (c .args .depth - 1) = omega arith in
+    record { cases = group-read _ _ (c .pre .paren .0) (c .pre .paren .1) _ _ _ _ deep (c .in-Continue-end .ensures tt .cases) (c .if-end-p .left) }
+
+pub step-len-requires : need.step-len-requires
+step-len-requires t c κs = record { fits = omega (arith, sign-within _ _ _ _ (c .pre .within) (c .in-Continue-sign .ensures tt .cases)) }
+
+pub step-add-end : need.step-add-end
+step-add-end t c = record { fits = omega (arith, sign-within _ _ _ _ (c .pre .within) (c .in-Continue-sign .ensures tt .cases), c .len .ensures .value) }
+
+pub step-returns-in-Break-sign : need.step-returns-in-Break-sign
+step-returns-in-Break-sign t c =
+    let p = err-from-errBy (c .from-residual .result) (c .from-residual .ensures .1) in
+    record { cases = rw (p .1, p .2) (sign-stops _ _ _ _ _ (c .in-Break-sign .ensures tt .cases)) }
+
+pub step-group-requires : need.step-group-requires
+step-group-requires t c κs =
+    let (lt, is) = begun _ _ _ _ _ 40 (c .in-Continue-sign .ensures tt .cases) (c .in-Open .is) refl (λ f. f) in
+    (omega arith, (lt, head-is (c .args .p .now) (c .args .at) 40 _ is))
+
+pub step-returns-in-Break-end : need.step-returns-in-Break-end
+step-returns-in-Break-end t c =
+    let p = err-from-errBy (c .from-residual-in-Break-end .result) (c .from-residual-in-Break-end .ensures .1) in
+    let (lt, is) = begun _ _ _ _ _ 40 (c .in-Continue-sign .ensures tt .cases) (c .in-Open .is) refl (λ f. f) in
+    record { cases = rw (p .1, p .2) (group-stops _ _ _ _ _ _ is (c .in-Break-end .ensures tt .cases)) }
+
+pub step-returns-in-Continue-end : need.step-returns-in-Continue-end
+step-returns-in-Continue-end t c =
+    let (lt, is) = begun _ _ _ _ _ 40 (c .in-Continue-sign .ensures tt .cases) (c .in-Open .is) refl (λ f. f) in
+    record { cases = group-steps _ _ _ _ lt _ _ _ _ is (c .in-Continue-end .ensures tt .cases) (c .atom .ensures .value) }
+
+pub step-returns-in-Close : need.step-returns-in-Close
+step-returns-in-Close t c =
+    let (lt, is) = begun _ _ _ _ _ 41 (c .in-Continue-sign .ensures tt .cases) (c .in-Close .is) refl (λ f. f) in
+    record { cases = λ _. head-is (c .args .p .now) (c .args .at) 41 _ is }
+
+pub step-returns-in-Break-most : need.step-returns-in-Break-most
+step-returns-in-Break-most t c =
+    let p = err-from-errBy (c .from-residual-in-Break-most .result) (c .from-residual-in-Break-most .ensures .1) in
+    record { cases = rw (p .1, p .2) (counted-refused _ _ _ _ _ _ (c .in-Continue-sign .ensures tt .cases) (c .in-Counted .is) _ (c .in-Break-most .ensures tt .cases)) }
+
+pub step-returns-in-Continue-most : need.step-returns-in-Continue-most
+step-returns-in-Continue-most t c = record { cases = counted-of _ _ _ _ _ _ (c .in-Continue-sign .ensures tt .cases) (c .in-Counted .is) _ _ _ _ (c .in-Continue-most .ensures tt .cases) (c .repeated-in-Counted .ensures .value) }
+
+pub step-returns-in-Bar : need.step-returns-in-Bar
+step-returns-in-Bar t c = record { cases = bar-of _ _ _ _ _ _ _ (c .in-Continue-sign .ensures tt .cases) (c .len .ensures .value) _ (c .in-Bar .is) (c .bar .ensures .value) }
+
+pub step-returns-in-Plain : need.step-returns-in-Plain
+step-returns-in-Plain t c = record { cases = plain-of _ _ _ _ _ _ _ (c .in-Continue-sign .ensures tt .cases) (c .len .ensures .value) _ (c .in-Plain .is) (c .atom-in-Plain .ensures .value) }
+
+pub step-returns-in-Escape : need.step-returns-in-Escape
+step-returns-in-Escape t c = record { cases = escape-of _ _ _ _ _ _ _ (c .in-Continue-sign .ensures tt .cases) (c .len .ensures .value) _ (c .in-Escape .is) (c .atom-in-Escape .ensures .value) }
+
+pub step-returns-in-Any : need.step-returns-in-Any
+step-returns-in-Any t c = record { cases = any-of _ _ _ _ _ _ _ (c .in-Continue-sign .ensures tt .cases) (c .len .ensures .value) _ (c .in-Any .is) (c .atom-in-Any .ensures .value) }
+
+pub step-returns-in-Class : need.step-returns-in-Class
+step-returns-in-Class t c = record { cases = class-of _ _ _ _ _ _ _ (c .in-Continue-sign .ensures tt .cases) (c .len .ensures .value) _ (c .in-Class .is) (c .atom-in-Class .ensures .value) }
+
+pub step-returns-in-Star : need.step-returns-in-Star
+step-returns-in-Star t c = record { cases = star-of _ _ _ _ _ _ _ (c .in-Continue-sign .ensures tt .cases) (c .len .ensures .value) _ (c .in-Star .is) (c .repeated .ensures .value) }
+
+pub step-returns-in-Plus : need.step-returns-in-Plus
+step-returns-in-Plus t c = record { cases = plus-of _ _ _ _ _ _ _ (c .in-Continue-sign .ensures tt .cases) (c .len .ensures .value) _ (c .in-Plus .is) (c .repeated-in-Plus .ensures .value) }
+
+pub step-returns-in-Question : need.step-returns-in-Question
+step-returns-in-Question t c = record { cases = opt-of _ _ _ _ _ _ _ (c .in-Continue-sign .ensures tt .cases) (c .len .ensures .value) _ (c .in-Question .is) (c .repeated-in-Question .ensures .value) }

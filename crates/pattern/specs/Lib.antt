@@ -1,0 +1,15 @@
+pub mod Expressions
+pub mod Places
+pub mod Meaning
+pub mod Characters
+pub mod Grammar
+pub mod Beginnings
+pub mod Automaton
+pub mod Refusals
+pub mod Signs
+pub mod Counting
+pub mod Reading
+pub mod Repeats
+pub mod Classes
+pub mod Walks
+pub mod Examples
