@@ -1,0 +1,3 @@
+pub mod Expressions
+pub mod Meaning
+pub mod Places
