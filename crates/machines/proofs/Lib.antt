@@ -1,0 +1,5 @@
+pub mod Joining
+pub mod Linear
+pub mod Repeating
+pub mod Splits
+pub mod Spread
