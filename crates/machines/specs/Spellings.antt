@@ -48,3 +48,14 @@ Follows {P} L q p = (us : List P) × (vs : List P) × L (us ++ (q ∷ p ∷ vs))
 
 abbrev pub On : {P : Type 0} → Lang P → P → Type 0
 On {P} L p = (us : List P) × (vs : List P) × L (us ++ (p ∷ vs))
+
+-- as many places as letters, and each place takes its letter
+abbrev pub Spells : {S A : Type 0} → (S → A → Type 0) → List (Place S) → List A → Type 0
+Spells takes [] [] = Unit {0}
+Spells takes [] (a ∷ w) = ⊥
+Spells takes (p ∷ ps) [] = ⊥
+Spells takes (p ∷ ps) (a ∷ w) = takes (p .1) a × Spells takes ps w
+
+-- some spelling of e spells w
+abbrev pub Spelled : {S A : Type 0} → (S → A → Type 0) → Expr S → List A → Type 0
+Spelled {S} takes e w = (ps : List (Place S)) × Spelling e ps × Spells takes ps w
