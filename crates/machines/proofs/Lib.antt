@@ -1,7 +1,10 @@
+pub mod Composing
+pub mod Gathering
 pub mod Joining
 pub mod Linear
-pub mod Masks
+pub mod Members
 pub mod Repeating
+pub mod Rows
 pub mod Spelling
 pub mod Splits
 pub mod Spread

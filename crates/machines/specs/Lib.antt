@@ -1,3 +1,4 @@
 pub mod Masks
+pub mod Relations
 pub mod Soundness
 pub mod Spellings

@@ -1,8 +1,3 @@
 // The machines that are built from a pattern.
-ghost use mathlib.Core.Path.{_≡_};
-
-pub fn most_places() -> usize
-    ensures value { λ r. ⌜ r ≡ 63 ⌝ }
-{
-    63
-}
+pub mod masks;
+pub mod relation;

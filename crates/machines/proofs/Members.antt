@@ -140,3 +140,6 @@ has-union rows set (suc n) p a =
 pub gathered-members : (rows : List ℕ) (set : ℕ) → Gathered rows set (gathered rows set)
 unfolding gathered
 gathered-members rows set p = (union-has rows set 64 p, has-union rows set 64 p)
+
+pub gathered-by : (rows : List ℕ) (set r : ℕ) → r ≡ gathered rows set → Gathered rows set r
+gathered-by rows set r e = subst (Gathered rows set) (sym e) (gathered-members rows set)
