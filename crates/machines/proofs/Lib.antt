@@ -1,10 +1,13 @@
 pub mod Composing
 pub mod Gathering
 pub mod Joining
+pub mod Judging
 pub mod Linear
 pub mod Members
 pub mod Repeating
 pub mod Rows
+pub mod Running
 pub mod Spelling
 pub mod Splits
+pub mod Symbols
 pub mod Spread

@@ -1,4 +1,6 @@
 pub mod Masks
+pub mod PlaceTables
 pub mod Relations
+pub mod Runs
 pub mod Soundness
 pub mod Spellings

@@ -1,3 +1,5 @@
 // The machines that are built from a pattern.
 pub mod masks;
+pub mod place;
 pub mod relation;
+pub mod tables;

@@ -1,0 +1,4 @@
+use Rattle.machines.proofs.place.PlaceFolding.join.Needs as need
+
+pub returns : need.returns
+returns c = ?

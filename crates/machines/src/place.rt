@@ -1,0 +1,68 @@
+// The place machine (the position automaton, Glushkov's): a judging machine whose leg of a text is
+// the relation between states that the text makes.
+ghost use mathlib.Core.Path.{_≡_};
+ghost use mathlib.Core.List.{List};
+ghost use mathlib.Core.Logic.{_↔_};
+ghost use Prim.Native.Nat.{ℕ};
+ghost use Rattle.folding.specs.Texts.{Bytes};
+ghost use Rattle.pattern.specs.Expressions.{Regex};
+ghost use Rattle.pattern.specs.Meaning.{Matches};
+ghost use Rattle.machines.specs.PlaceTables.{TablesOf, Made, Meant};
+ghost use Rattle.machines.specs.Runs.{leg as leg-of};
+ghost use Rattle.machines.specs.Soundness.{Sane};
+use crate::masks;
+use crate::relation::Relation;
+use crate::tables::Tables;
+use folding::fold::Folding;
+use folding::fold::Judging;
+
+#[derive(Clone, Copy)]
+pub struct PlaceMachine {
+    tables: Tables,
+    ghost made: { Made tables },
+}
+
+impl PlaceMachine {
+    pub fn new(tables: Tables) -> PlaceMachine
+        requires made { ⌜ Made tables ⌝ }
+        ensures tables { λ r. ⌜ r .tables ≡ tables ⌝ }
+        ensures means { λ r. ⌜ ((e : Regex) → Sane e → TablesOf e tables → (w : List ℕ) → Bytes w → Meant (r .tables) w ↔ Matches e w) ⌝ }
+    {
+        PlaceMachine { tables }
+    }
+}
+
+pub impl Folding for PlaceMachine as PlaceFolding {
+    type Leg = Relation;
+
+    ghost leg = { λ m w. leg-of (m .tables) w };
+
+    fn empty(&self) -> Relation {
+        Relation::identity()
+    }
+
+    fn step(&self, at: &Relation, c: u8) -> Relation {
+        let takes = self.tables.takes[c as usize];
+        let mut rows = [0; 64];
+        for q in 0..64 {
+            rows[q] = masks::gather(&self.tables.follow, at.rows[q]) & takes;
+        }
+        Relation { rows }
+    }
+
+    fn join(&self, first: &Relation, second: &Relation) -> Relation {
+        first.then(second)
+    }
+}
+
+pub impl Judging for PlaceMachine as PlaceJudging {
+    ghost means = { λ m w. Meant (m .tables) w };
+
+    fn accepts(&self, at: &Relation) -> bool {
+        at.rows[0] & self.tables.accepts != 0
+    }
+
+    fn lost(&self, at: &Relation) -> bool {
+        at.rows[0] == 0
+    }
+}
