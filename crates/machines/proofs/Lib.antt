@@ -2,11 +2,15 @@ pub mod Composing
 pub mod Gathering
 pub mod Joining
 pub mod Judging
+pub mod Lawful
+pub mod Least
 pub mod Linear
+pub mod Machine
 pub mod Members
 pub mod Repeating
 pub mod Rows
 pub mod Running
+pub mod Searching
 pub mod Spelling
 pub mod Splits
 pub mod Symbols

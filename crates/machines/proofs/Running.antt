@@ -59,6 +59,14 @@ module _ (t : Tables) where
   pub has-leg : (w : List ℕ) (q p : ℕ) → q < 64 → ReachesBy w q p → Has (row (leg t w) q) p
   has-leg w q p lt r = subst (λ m. Has m p) (sym (leg-row w q lt)) (has-after w (2 ^ q) p q (has-power q) r)
 
+  -- one byte more
+  pub leg-more : (w : List ℕ) (c : ℕ) (at r : Relation) → at ≡ leg t w → r .rows ≡ rows-of (λ q. moved t (row at q) c) → r ≡ leg t (w ++ (c ∷ []))
+  leg-more w c at r is rows =
+      same-relation r (leg t (w ++ (c ∷ [])))
+      (rows
+      ∙ same-rows (λ q. moved t (row at q) c) (λ q. after t (w ++ (c ∷ [])) (2 ^ q))
+      (λ q lt. ap (λ x. moved t (row x q) c) is ∙ ap (λ x. moved t x c) (leg-row w q lt) ∙ sym (after-one w c (2 ^ q))))
+
   -- the text leads to no state past the 63rd
   abbrev pub Narrow : List ℕ → Type 0
   Narrow w = (q p : ℕ) → q < 64 → ReachesBy w q p → p < 64

@@ -1,5 +1,6 @@
 // The machines that are built from a pattern.
 pub mod masks;
 pub mod place;
+pub mod placeno;
 pub mod relation;
 pub mod tables;

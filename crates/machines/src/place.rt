@@ -1,16 +1,11 @@
 // The place machine (the position automaton, Glushkov's): a judging machine whose leg of a text is
 // the relation between states that the text makes.
 ghost use mathlib.Core.Path.{_≡_};
-ghost use mathlib.Core.List.{List};
-ghost use mathlib.Core.Logic.{_↔_};
-ghost use Prim.Native.Nat.{ℕ};
-ghost use Rattle.folding.specs.Texts.{Bytes};
-ghost use Rattle.pattern.specs.Expressions.{Regex};
-ghost use Rattle.pattern.specs.Meaning.{Matches};
-ghost use Rattle.machines.specs.PlaceTables.{TablesOf, Made, Meant};
+ghost use Rattle.machines.specs.Laws.{SpelledExactly, EachPlaceLives, MeansExactly, ReachesExactly, JoinsExactly, Neutral};
+ghost use Rattle.machines.specs.PlaceTables.{Made, Meant};
 ghost use Rattle.machines.specs.Runs.{leg as leg-of};
-ghost use Rattle.machines.specs.Soundness.{Sane};
 use crate::masks;
+use crate::placeno::PlaceNo;
 use crate::relation::Relation;
 use crate::tables::Tables;
 use folding::fold::Folding;
@@ -23,10 +18,16 @@ pub struct PlaceMachine {
 }
 
 impl PlaceMachine {
+    // The one call here that asks something: the tables are those of some expression.
     pub fn new(tables: Tables) -> PlaceMachine
         requires made { ⌜ Made tables ⌝ }
         ensures tables { λ r. ⌜ r .tables ≡ tables ⌝ }
-        ensures means { λ r. ⌜ ((e : Regex) → Sane e → TablesOf e tables → (w : List ℕ) → Bytes w → Meant (r .tables) w ↔ Matches e w) ⌝ }
+        ensures means { λ r. ⌜ MeansExactly (r .tables) ⌝ }
+        ensures reaches { λ r. ⌜ ReachesExactly (r .tables) ⌝ }
+        ensures joins { λ r. ⌜ JoinsExactly (r .tables) ⌝ }
+        ensures neutral { λ r. ⌜ Neutral (r .tables) ⌝ }
+        ensures spelled { λ _. ⌜ SpelledExactly ⌝ }
+        ensures places { λ _. ⌜ EachPlaceLives ⌝ }
     {
         PlaceMachine { tables }
     }
@@ -59,10 +60,10 @@ pub impl Judging for PlaceMachine as PlaceJudging {
     ghost means = { λ m w. Meant (m .tables) w };
 
     fn accepts(&self, at: &Relation) -> bool {
-        at.rows[0] & self.tables.accepts != 0
+        at.row(PlaceNo::start()) & self.tables.accepts != 0
     }
 
     fn lost(&self, at: &Relation) -> bool {
-        at.rows[0] == 0
+        at.row(PlaceNo::start()) == 0
     }
 }

@@ -1,7 +1,8 @@
 // Relations between the states of a machine: what a text does to every state at once.
 ghost use mathlib.Core.Path.{_≡_};
-ghost use Rattle.machines.specs.Relations.{composed, identity as identity-relation, Composes, Associative};
+ghost use Rattle.machines.specs.Relations.{composed, identity as identity-relation, row as row-of, Composes, Associative};
 use crate::masks;
+use crate::placeno::PlaceNo;
 
 // Row q is the set of states that q leads to.
 #[derive(Clone, Copy)]
@@ -19,6 +20,13 @@ impl Relation {
             rows[q] = 1 << q;
         }
         Relation { rows }
+    }
+
+    // The states that `of` leads to.
+    pub fn row(&self, of: PlaceNo) -> u64
+        ensures value { λ r. ⌜ r ≡ row-of (now (self .entry)) (of .number) ⌝ }
+    {
+        self.rows[of.index()]
     }
 
     // First this one, then `second`.
