@@ -5,8 +5,10 @@ pub mod Judging
 pub mod Lawful
 pub mod Least
 pub mod Linear
+pub mod Looping
 pub mod Machine
 pub mod Members
+pub mod Moving
 pub mod Repeating
 pub mod Rows
 pub mod Running
@@ -15,3 +17,4 @@ pub mod Spelling
 pub mod Splits
 pub mod Symbols
 pub mod Spread
+pub mod Tabling

@@ -56,7 +56,7 @@ split-pair us q p vs a b e =
     (split-at us q (p ∷ vs) a b e)
 
 -- The last element ends the second list, or the first where the second is empty.
-both-empty : {P : Type 0} (u v : List P) → [] ≡ u ++ v → (u ≡ []) × (v ≡ [])
+pub both-empty : {P : Type 0} (u v : List P) → [] ≡ u ++ v → (u ≡ []) × (v ≡ [])
 both-empty [] v e = (refl, sym e)
 both-empty (x ∷ u) v e = absurd (not-empty (sym e))
 

@@ -1,3 +1,4 @@
+pub mod Building
 pub mod Laws
 pub mod Masks
 pub mod PlaceTables
