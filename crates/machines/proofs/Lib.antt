@@ -1,7 +1,9 @@
+pub mod Combining
 pub mod Composing
 pub mod Gathering
 pub mod Joining
 pub mod Judging
+pub mod Later
 pub mod Lawful
 pub mod Least
 pub mod Linear
@@ -13,6 +15,7 @@ pub mod Repeating
 pub mod Rows
 pub mod Running
 pub mod Searching
+pub mod Shifts
 pub mod Spelling
 pub mod Splits
 pub mod Symbols

@@ -7,7 +7,7 @@ use native.Mathlib.Omega.{arith}
 use Rattle.pattern.specs.Expressions.{Symbol, Takes}
 use Rattle.pattern.specs.Meaning.{Lang, Empty, Union, Closure}
 use Rattle.machines.specs.declared.tables.Tables.{Tables}
-use Rattle.machines.specs.Building.{next, takers, TablesBy, Loops, Passes}
+use Rattle.machines.specs.Building.{nexts, takers, TablesBy, Loops, Passes}
 use Rattle.machines.specs.Masks.{Has}
 use Rattle.machines.specs.Spellings.{Place, First, Ends, Follows, On}
 use Rattle.machines.proofs.Joining.{union-first, union-ends, union-follows, union-on, first-larger, ends-larger, follows-larger, on-larger, none-on, on-first, on-ends, on-before}

@@ -75,7 +75,7 @@ power-has k q h =
 low-bit : (a : ℕ) → bit a 0 ≡ a % 2
 low-bit a = ap (λ x. x % 2) (div-one a)
 
-high-bit : (a q : ℕ) → bit (a / 2) q ≡ bit a (1 + q)
+pub high-bit : (a q : ℕ) → bit (a / 2) q ≡ bit a (1 + q)
 high-bit a q = ap (λ x. x % 2) (shr-shr a 1 q)
 
 pub some-member : (a : ℕ) → (a ≡ 0 → ⊥) → (q : ℕ) × Has a q
@@ -143,3 +143,13 @@ gathered-members rows set p = (union-has rows set 64 p, has-union rows set 64 p)
 
 pub gathered-by : (rows : List ℕ) (set r : ℕ) → r ≡ gathered rows set → Gathered rows set r
 gathered-by rows set r e = subst (Gathered rows set) (sym e) (gathered-members rows set)
+
+pub or-members : (a b p : ℕ) → Has (bitOr a b) p ↔ (Has a p ⊎ Has b p)
+or-members a b p = (or-has a b p, ⊎-elim (has-or-left a b p) (has-or-right a b p))
+
+-- state 0 alone, and place 1 alone
+pub zeroth-members : (p : ℕ) → Has 1 p ↔ (p ≡ 0)
+zeroth-members p = (power-has 0 p, λ e. subst (Has 1) (sym e) (has-power 0))
+
+pub place-one-members : (p : ℕ) → Has 2 p ↔ (p ≡ 1)
+place-one-members p = (power-has 1 p, λ e. subst (Has 2) (sym e) (has-power 1))

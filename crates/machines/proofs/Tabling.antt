@@ -8,7 +8,7 @@ use Rattle.pattern.specs.Expressions.{Regex, Symbol, Takes}
 use Rattle.pattern.specs.Meaning.{Lang, Joined, Union}
 use Rattle.pattern.specs.Places.{places}
 use Rattle.machines.specs.declared.tables.Tables.{Tables}
-use Rattle.machines.specs.Building.{next, takers, Then, Either}
+use Rattle.machines.specs.Building.{nexts, takers, Then, Either}
 use Rattle.machines.specs.Masks.{Has}
 use Rattle.machines.specs.PlaceTables.{TablesOf}
 use Rattle.machines.specs.Spellings.{Place, Spelling, Spells, First, Ends, Follows, On}
@@ -17,8 +17,8 @@ use Rattle.machines.proofs.Spelling.{meant-spelled, spelled-meant}
 use Rattle.machines.proofs.Splits.{both-empty}
 
 pub record TablesFor (L : Lang (Place Symbol)) (t : Tables) : Type 0 where
-  pub first : (p : ℕ) → Has (next t 0) p ↔ ((s : Symbol) × First L (p, s))
-  pub follow : (q p : ℕ) → 1 ≤ q → q < 64 → Has (next t q) p ↔ ((s : Symbol) × (u : Symbol) × Follows L (q, s) (p, u))
+  pub first : (p : ℕ) → Has (nexts t 0) p ↔ ((s : Symbol) × First L (p, s))
+  pub follow : (q p : ℕ) → 1 ≤ q → q < 64 → Has (nexts t q) p ↔ ((s : Symbol) × (u : Symbol) × Follows L (q, s) (p, u))
   pub takes : (c p : ℕ) → c < 256 → Has (takers t c) p ↔ ((s : Symbol) × On L (p, s) × Takes s c)
   pub ends : (p : ℕ) → 1 ≤ p → Has (t .accepts) p ↔ ((s : Symbol) × Ends L (p, s))
   pub start : Has (t .accepts) 0 ↔ L []

@@ -1,6 +1,7 @@
 -- Sets of states as masks: one number, bit q standing for state q. Assumes nothing.
 --
 --   Has mask q         state q is in the set
+--   After n mask p     p is n numbers later than some place of the set
 --   union rows set n   the union of the rows of those members of the set that are below n
 --   gathered rows set  the union of the rows of the members of the set
 --   Gathered rows set r   r is that union, bit by bit
@@ -8,7 +9,7 @@ use mathlib.Core.Path.{_≡_}
 use mathlib.Core.Bool.{cond}
 use mathlib.Core.List.{List}
 use mathlib.Core.Logic.{_↔_}
-use Prim.Native.Nat.{ℕ, zero, suc, _/_, _%_, _^_, _<_}
+use Prim.Native.Nat.{ℕ, zero, suc, _-_, _/_, _%_, _^_, _<_}
 use lib.Bits.{bitOr}
 use lib.Dec.{eqb}
 use lib.ListN.{getD}
@@ -18,6 +19,9 @@ bit mask q = mask / 2 ^ q % 2
 
 abbrev pub Has : ℕ → ℕ → Type 0
 Has mask q = bit mask q ≡ 1
+
+abbrev pub After : ℕ → ℕ → ℕ → Type 0
+After n mask p = (n < p) × (p < 64) × Has mask (p - n)
 
 unfoldable pub union : List ℕ → ℕ → ℕ → ℕ
 union rows set zero = 0

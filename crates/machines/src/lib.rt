@@ -1,4 +1,5 @@
 // The machines that are built from a pattern.
+mod combine;
 pub mod masks;
 pub mod place;
 pub mod placeno;
