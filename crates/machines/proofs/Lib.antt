@@ -11,6 +11,7 @@ pub mod Looping
 pub mod Machine
 pub mod Members
 pub mod Moving
+pub mod Parts
 pub mod Repeating
 pub mod Rows
 pub mod Running

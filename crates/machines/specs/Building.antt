@@ -6,17 +6,12 @@
 --   Either a b r   a or b, whose places come later
 --   Loops a r      a any number of times: what a begins with follows each state at which it accepts
 --   Passes a r     a or nothing
---   Represents e f the fragment f is that of e; past 63 places its tables mean nothing
 use mathlib.Core.Path.{_≡_}
 use mathlib.Core.Logic.{_↔_, _⊎_}
-use Prim.Native.Nat.{ℕ, _-_, _≤_, _<_, min}
+use Prim.Native.Nat.{ℕ, _-_, _≤_, _<_}
 use lib.ListN.{getD}
-use Rattle.pattern.specs.Expressions.{Regex}
-use Rattle.pattern.specs.Places.{places}
 use Rattle.machines.specs.declared.tables.Tables.{Tables}
 use Rattle.machines.specs.Masks.{Has, After}
-use Rattle.machines.specs.PlaceTables.{TablesOf}
-use Rattle.machines.specs.Soundness.{Sane}
 
 abbrev pub nexts : Tables → ℕ → ℕ
 nexts t q = getD (t .follow) q 0

@@ -1,4 +1,5 @@
 pub mod Building
+pub mod Fragments
 pub mod Laws
 pub mod Masks
 pub mod PlaceTables

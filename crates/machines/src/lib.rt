@@ -1,5 +1,7 @@
 // The machines that are built from a pattern.
+pub mod build;
 mod combine;
+pub mod fragment;
 pub mod masks;
 pub mod place;
 pub mod placeno;
