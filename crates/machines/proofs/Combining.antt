@@ -67,5 +67,5 @@ one-row q p lt =
     (λ h. absurd (zero-has p (subst (λ x. Has x p) at h)), λ h. absurd (ne (h .0))))
     (cases-eq q 0)
 
-pub place-by : (takes : List ℕ) (T : ℕ → ℕ → Type 0) → ((c p : ℕ) → c < 256 → Has (getD takes c 0) p ↔ T c p) → TablesBy (record { follow = set (replicate 64 0) 0 2; takes = takes; accepts = 2 }) (λ q p. (q ≡ 0) × (p ≡ 1)) T (λ p. p ≡ 1)
-place-by takes T by = record { rows = one-row; takes = by; accepts = place-one-members }
+pub place-by : (takes : List ℕ) → TablesBy (record { follow = set (replicate 64 0) 0 2; takes = takes; accepts = 2 }) (λ q p. (q ≡ 0) × (p ≡ 1)) (λ c p. Has (getD takes c 0) p) (λ p. p ≡ 1)
+place-by takes = record { rows = one-row; takes = λ c p lt. same-has (getD takes c 0) p; accepts = place-one-members }

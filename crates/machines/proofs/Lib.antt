@@ -1,11 +1,13 @@
 pub mod Combining
 pub mod Composing
+pub mod Copies
 pub mod Gathering
 pub mod Joining
 pub mod Judging
 pub mod Later
 pub mod Lawful
 pub mod Least
+pub mod Lettering
 pub mod Linear
 pub mod Looping
 pub mod Machine

@@ -1,17 +1,19 @@
 -- The parts of a machine, put together: what represents two expressions represents the one that is made of them. Assumes nothing.
 use mathlib.Core.Path.{_≡_, refl, sym, ap, subst, _∙_}
 use mathlib.Core.List.{List, [], _∷_}
-use mathlib.Core.Logic.{_⊎_, inl, ⊎-elim, ∥∥₁-map, ∥∥₁-map₂}
+use mathlib.Core.Logic.{∥∥₁-map, ∥∥₁-map₂}
 use Prim.Native.Nat.{ℕ, _+_, _*_, _≤_, _<_, min}
 use native.Mathlib.Omega.{arith}
-use Rattle.pattern.specs.Expressions.{Expr, one, empty, seq, alt, star, plus, opt, counted, Regex, Symbol, Takes, byte}
+use lib.ListN.{getD}
+use Rattle.pattern.specs.Expressions.{Expr, one, empty, seq, alt, star, plus, opt, counted, Regex, Symbol}
 use Rattle.pattern.specs.Meaning.{Lang, Means}
 use Rattle.pattern.specs.Places.{places}
 use Rattle.machines.specs.declared.tables.Tables.{Tables}
 use Rattle.machines.specs.Building.{nexts, takers, TablesBy, Later, Then, Either, Loops, Passes}
 use Rattle.machines.specs.Fragments.{Represents, Part}
+use Rattle.machines.specs.Letters.{LettersOf, SomeLetters}
 use Rattle.machines.specs.Masks.{Has}
-use Rattle.machines.specs.PlaceTables.{TablesOf}
+use Rattle.machines.specs.PlaceTables.{TablesOf, Made}
 use Rattle.machines.specs.Soundness.{Sane, TakesSome}
 use Rattle.machines.specs.Spellings.{Place, spread, Spelling, SpellingFrom}
 use Rattle.machines.proofs.Later.{later-tables}
@@ -24,20 +26,22 @@ pub empty-part : (t : Tables) → TablesBy t (λ q p. ⊥) (λ c p. ⊥) (λ p. 
 empty-part t by = record { sane = tt; count = refl; tables = λ few. of-for empty t few (empty-tables t by) }
 
 -- one place, by the bytes that it takes
-pub place-part : (s : Symbol) (t : Tables) → TakesSome s → TablesBy t (λ q p. (q ≡ 0) × (p ≡ 1)) (λ c p. (p ≡ 1) × Takes s c) (λ p. p ≡ 1) → Represents (one s) t 1
-place-part s t some by = record { sane = some; count = refl; tables = λ few. of-for (one s) t few (single-tables s t by) }
+pub place-part : (s : Symbol) (takes : List ℕ) (t : Tables) → TakesSome s → LettersOf s takes → TablesBy t (λ q p. (q ≡ 0) × (p ≡ 1)) (λ c p. Has (getD takes c 0) p) (λ p. p ≡ 1) → Represents (one s) t 1
+place-part s takes t some letters by = record {
+  sane = some;
+  count = refl;
+  tables = λ few.
+      of-for (one s) t few
+      (single-tables s t
+      (record {
+        rows = by .rows;
+        takes = λ c p lt. (λ h. letters c p lt .0 (by .takes c p lt .0 h), λ h. by .takes c p lt .1 (letters c p lt .1 h));
+        accepts = by .accepts;
+      }));
+}
 
-pub byte-part : (b : ℕ) (t : Tables) → b < 256 → TablesBy t (λ q p. (q ≡ 0) × (p ≡ 1)) (λ c p. (p ≡ 1) × ((b ≤ c) × (c ≤ b))) (λ p. p ≡ 1) → Represents (one (byte b)) t 1
-byte-part b t lt by =
-    place-part (byte b) t (b, lt, inl (omega arith, omega arith))
-    (record {
-      rows = by .rows;
-      takes = λ c p in′. (
-        λ h. let (e, r) = by .takes c p in′ .0 h in (e, inl r),
-        λ h. by .takes c p in′ .1 (h .0, ⊎-elim (λ r. r) (λ r. absurd r) (h .1)),
-      );
-      accepts = by .accepts;
-    })
+pub place-is-part : (takes : List ℕ) (t : Tables) → SomeLetters takes → TablesBy t (λ q p. (q ≡ 0) × (p ≡ 1)) (λ c p. Has (getD takes c 0) p) (λ p. p ≡ 1) → Part t 1
+place-is-part takes t some by = ∥∥₁-map some (λ x. (one (x .0), place-part (x .0) takes t (x .1) (x .2) by))
 
 -- two parts, the second moved behind the first
 
@@ -131,3 +135,7 @@ part-one make a r m k x step = ∥∥₁-map x (λ y. (make (y .0), step (y .0) 
 
 pub part-two : (make : Regex → Regex → Regex) (a b r : Tables) (m n k : ℕ) → Part a m → Part b n → ((e f : Regex) → Represents e a m → Represents f b n → Represents (make e f) r k) → Part r k
 part-two make a b r m n k x y step = ∥∥₁-map₂ x y (λ u v. (make (u .0) (v .0), step (u .0) (v .0) (u .1) (v .1)))
+
+-- a part with at most 63 places makes a machine
+pub part-made : (t : Tables) (n : ℕ) → n ≤ 63 → Part t n → Made t
+part-made t n le part = ∥∥₁-map part (λ x. (x .0, x .1 .sane, x .1 .tables (let c = x .1 .count in omega arith)))

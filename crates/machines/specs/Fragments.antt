@@ -2,11 +2,9 @@
 --
 --   Represents e t n   n is the number of e's places, or 64 if there are more than 63; up to 63, t is e's machine
 --   Part t n           t and n represent some expression
---   Widens s low high s′   s′ takes what s takes, and the bytes from `low` to `high`
 use mathlib.Core.Path.{_≡_}
-use mathlib.Core.Logic.{_↔_, _⊎_}
-use Prim.Native.Nat.{ℕ, _≤_, _<_, min}
-use Rattle.pattern.specs.Expressions.{Regex, Symbol, Takes}
+use Prim.Native.Nat.{ℕ, _≤_, min}
+use Rattle.pattern.specs.Expressions.{Regex}
 use Rattle.pattern.specs.Places.{places}
 use Rattle.machines.specs.declared.tables.Tables.{Tables}
 use Rattle.machines.specs.PlaceTables.{TablesOf}
@@ -19,6 +17,3 @@ pub record Represents (e : Regex) (t : Tables) (n : ℕ) : Type 0 where
 
 abbrev pub Part : Tables → ℕ → Type 0
 Part t n = ∥ ((e : Regex) × Represents e t n) ∥₁
-
-abbrev pub Widens : Symbol → ℕ → ℕ → Symbol → Type 0
-Widens s low high s′ = (c : ℕ) → c < 256 → Takes s′ c ↔ (Takes s c ⊎ ((low ≤ c) × (c ≤ high)))

@@ -1,6 +1,7 @@
 pub mod Building
 pub mod Fragments
 pub mod Laws
+pub mod Letters
 pub mod Masks
 pub mod PlaceTables
 pub mod Relations

@@ -1,14 +1,17 @@
 // The machine of an expression from its parts, one call to each kind of expression. Parts are
 // values, so that repeats within repeats cost a few joins each and not their product.
 ghost use mathlib.Core.Path.{_≡_};
-ghost use mathlib.Core.List.{[], _∷_};
 ghost use Prim.Native.Nat.{ℕ, _≤_, min};
 ghost use Rattle.std.specs.Options.{Cases};
-ghost use Rattle.pattern.specs.Expressions.{Regex, Symbol, one, seq, alt, star as star-of, plus as plus-of, opt, counted as counted-of, empty as nothing, byte as byte-of};
+ghost use Rattle.pattern.specs.Expressions.{Regex, Symbol, one, seq, alt, star as star-of, opt, empty as nothing};
 ghost use Rattle.pattern.specs.Places.{places};
-ghost use Rattle.machines.specs.Fragments.{Represents, Widens};
+ghost use Rattle.machines.specs.Fragments.{Represents};
+ghost use Rattle.machines.specs.Laws.{MeansExactly};
+ghost use Rattle.machines.specs.Letters.{LettersOf};
 ghost use Rattle.machines.specs.PlaceTables.{TablesOf};
+ghost use Rattle.machines.specs.Soundness.{TakesSome};
 use crate::fragment::Fragment;
+use crate::letters::Letters;
 use crate::place::PlaceMachine;
 use crate::tables::Tables;
 
@@ -23,14 +26,32 @@ impl Fragment {
         }
     }
 
-    // One place, which takes the byte.
-    pub fn byte(byte: u8) -> Fragment
-        ensures value { λ r. ⌜ Represents (one (byte-of byte)) (r .tables) (r .count) ⌝ }
+    // One place.
+    pub fn place(letters: &Letters) -> Fragment
+        ensures value { λ r. ⌜ ((s : Symbol) → TakesSome s → LettersOf s (now (letters .entry) .takes) → Represents (one s) (r .tables) (r .count)) ⌝ }
     {
         Fragment {
-            tables: Tables::place(byte, byte),
+            tables: Tables::place(letters.takes),
             count: 1,
         }
+    }
+
+    // How many places the part has, counted up to 64.
+    pub fn places(&self) -> u8
+        ensures value { λ r. ⌜ ((e : Regex) → Represents e (now (self .entry) .tables) (now (self .entry) .count) → r ≡ min (places e) 64) ⌝ }
+    {
+        self.count
+    }
+
+    // The machine of the whole, if it has at most 63 places.
+    pub fn machine(&self) -> Option<PlaceMachine>
+        ensures value { λ r. ⌜ ((e : Regex) → Represents e (now (self .entry) .tables) (now (self .entry) .count) → Cases r (64 ≤ places e) (λ m. TablesOf e (m .tables))) ⌝ }
+        ensures means { λ r. ⌜ Cases r (64 ≤ now (self .entry) .count) (λ m. MeansExactly (m .tables)) ⌝ }
+    {
+        if self.count > 63 {
+            return None;
+        }
+        Some(PlaceMachine::new(self.tables))
     }
 
     // This and then `second`.
@@ -85,12 +106,5 @@ impl Fragment {
             tables: self.tables.spared(),
             count: self.count,
         }
-    }
-
-    // This at least once.
-    pub fn plus(&self) -> Fragment
-        ensures value { λ r. ⌜ ((e : Regex) → Represents e (now (self .entry) .tables) (now (self .entry) .count) → Represents (plus-of e) (r .tables) (r .count)) ⌝ }
-    {
-        self.then(&self.star())
     }
 }

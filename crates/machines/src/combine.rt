@@ -12,7 +12,7 @@ use crate::masks::places;
 use crate::tables::Tables;
 
 // Who takes a byte in one table or in another.
-fn both(a: &[u64; 256], b: &[u64; 256]) -> [u64; 256]
+pub(crate) fn both(a: &[u64; 256], b: &[u64; 256]) -> [u64; 256]
     ensures members { λ r. ⌜ ((c p : ℕ) → c < 256 → Has (getD r c 0) p ↔ (Has (getD (now (a .entry)) c 0) p ⊎ Has (getD (now (b .entry)) c 0) p)) ⌝ }
 {
     let mut takes = [0; 256];
@@ -23,7 +23,7 @@ fn both(a: &[u64; 256], b: &[u64; 256]) -> [u64; 256]
 }
 
 // Place 1 takes the bytes from `low` to `high`.
-fn between(low: u8, high: u8) -> [u64; 256]
+pub(crate) fn between(low: u8, high: u8) -> [u64; 256]
     ensures members { λ r. ⌜ ((c p : ℕ) → c < 256 → Has (getD r c 0) p ↔ ((p ≡ 1) × ((low ≤ c) × (c ≤ high)))) ⌝ }
 {
     let mut takes = [0; 256];
@@ -45,15 +45,15 @@ impl Tables {
         }
     }
 
-    // One place, which takes the bytes from `low` to `high`.
-    pub(crate) fn place(low: u8, high: u8) -> Tables
-        ensures members { λ r. ⌜ TablesBy r (λ q p. (q ≡ 0) × (p ≡ 1)) (λ c p. (p ≡ 1) × ((low ≤ c) × (c ≤ high))) (λ p. p ≡ 1) ⌝ }
+    // Place 1 alone, which takes the bytes whose row has it.
+    pub(crate) fn place(takes: [u64; 256]) -> Tables
+        ensures members { λ r. ⌜ TablesBy r (λ q p. (q ≡ 0) × (p ≡ 1)) (λ c p. Has (getD takes c 0) p) (λ p. p ≡ 1) ⌝ }
     {
         let mut follow = [0; 64];
         follow[0] = 2;
         Tables {
             follow,
-            takes: between(low, high),
+            takes,
             accepts: 2,
         }
     }

@@ -2,8 +2,10 @@
 pub mod build;
 mod combine;
 pub mod fragment;
+pub mod letters;
 pub mod masks;
 pub mod place;
 pub mod placeno;
 pub mod relation;
+mod repeats;
 pub mod tables;
