@@ -1,0 +1,10 @@
+pub mod Building
+pub mod Fragments
+pub mod Laws
+pub mod Letters
+pub mod Masks
+pub mod PlaceTables
+pub mod Relations
+pub mod Runs
+pub mod Soundness
+pub mod Spellings
