@@ -1,4 +1,5 @@
 pub mod Cuts
+pub mod Exchanging
 pub mod Filings
 pub mod Laws
 pub mod Parted
