@@ -1,6 +1,7 @@
 // Bundles: a pattern and the numbered strips of a text in one run of bytes; docs/bundles.md has the layout.
 mod bytes;
 pub mod decode;
+pub mod check;
 mod filing;
 pub mod report;
 #[cfg(test)]

@@ -2,5 +2,6 @@
 mod filing;
 #[cfg(test)]
 mod rolls;
+mod spans;
 pub mod thirds;
 pub mod zeroless;
