@@ -8,11 +8,11 @@ use Rattle.fault.specs.declared.Layer.{Layer}
 use Rattle.fault.specs.declared.Layer.the-variants.{Pattern, Build, Roll, Bundle}
 use Rattle.fault.specs.Numbers.{number}
 
-abbrev pub name : Layer → List ℕ
-name Pattern = codes "pattern"
-name Build = codes "build"
-name Roll = codes "roll"
-name Bundle = codes "bundle"
+abbrev pub word : Layer → List ℕ
+word Pattern = codes "pattern"
+word Build = codes "build"
+word Roll = codes "roll"
+word Bundle = codes "bundle"
 
 abbrev pub line : Fault → List ℕ
-line f = codes "refused " ++ (decimal (number (f .refusal)) ++ (codes " layer " ++ (name (f .layer) ++ (codes " place " ++ decimal (f .place)))))
+line f = codes "refused " ++ (decimal (number (f .refusal)) ++ (codes " layer " ++ (word (f .layer) ++ (codes " place " ++ decimal (f .place)))))

@@ -2,7 +2,7 @@
 ghost use mathlib.Core.Path.{_≡_};
 ghost use Rattle.std.specs.declared.option.Option.the-variants.{Some};
 ghost use Rattle.fault.specs.Numbers.{number};
-ghost use Rattle.fault.specs.Lines.{name, line};
+ghost use Rattle.fault.specs.Lines.{word, line};
 use std::fmt;
 
 // The eleven refusals, in the order of their numbers; docs/refusals.md says when each is given.
@@ -51,8 +51,8 @@ pub enum Layer {
 }
 
 impl Layer {
-    pub fn name(self) -> &'static str
-        ensures value { λ r. ⌜ now r ≡ name self ⌝ }
+    pub fn word(self) -> &'static str
+        ensures value { λ r. ⌜ now r ≡ word self ⌝ }
     {
         match self {
             Layer::Pattern => "pattern",
@@ -76,7 +76,7 @@ pub impl fmt::Display for Fault as FaultDisplay {
 
     fn fmt<W: fmt::Write>(&self, f: &mut fmt::Formatter<W>) -> fmt::Result {
         let number = self.refusal.number();
-        let layer = self.layer.name();
+        let layer = self.layer.word();
         let place = self.place;
         write!(f, "refused {number} layer {layer} place {place}")
     }
