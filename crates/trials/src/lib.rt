@@ -2,6 +2,5 @@
 mod filing;
 #[cfg(test)]
 mod rolls;
-mod spans;
 pub mod thirds;
 pub mod zeroless;

@@ -1,5 +1,5 @@
 use Prim.Native.Nat.{_+_, _*_}
-use Rattle.trials.proofs.spans.+alternatives+atom+branch.Given as given
+use Rattle.machine_trials.proofs.spans.+alternatives+atom+branch.Given as given
 
 abbrev pub μ-alternatives : given.MeasureT-alternatives
 μ-alternatives l = 3 * l .depth + 2
