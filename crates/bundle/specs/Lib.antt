@@ -1,3 +1,4 @@
+pub mod Checks
 pub mod Cuts
 pub mod Filing
 pub mod Handed

@@ -7,6 +7,9 @@
 --   Files     both, for whatever text the strip holds; a refusal hands the strip back
 --   AsMade    what making a roll answers
 --   Begins, Feeds   a strip of no bytes; more bytes, or none where there would be too many
+--
+-- Open is what a granted call other than an opening answers and leaves where the state stands for no plain roll under this
+-- machine, or the strip holds no text under it: then `Keeps` says nothing, and `Refuses` still holds.
 use mathlib.Core.Path.{_≡_}
 use mathlib.Core.Bool.{Bool}
 use mathlib.Core.List.{List, [], _++_}
