@@ -1,3 +1,4 @@
+pub mod Checking
 pub mod Cuts
 pub mod Exchanging
 pub mod Filings
