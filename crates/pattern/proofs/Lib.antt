@@ -17,6 +17,7 @@ pub mod ClassWays
 pub mod ClassLoop
 pub mod SignWays
 pub mod Caps
+pub mod Drafting
 pub mod Walking
 pub mod Groups
 pub mod SignSteps
