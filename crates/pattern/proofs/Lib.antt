@@ -23,3 +23,4 @@ pub mod Groups
 pub mod SignSteps
 pub mod Outcomes
 pub mod Worked
+pub mod SignShapes

@@ -23,9 +23,9 @@ use Rattle.pattern.specs.Walks.{Leads, Steps, StepStops, GroupRead}
 use Rattle.pattern.proofs.Runs.{NoRepeat, isRepeat, verdict-alive}
 use Rattle.pattern.proofs.ClassRuns.{class-runs}
 use Rattle.pattern.proofs.Completes.{escape-runs}
-use Rattle.pattern.proofs.Slices.{drop-is}
+use Rattle.pattern.proofs.Slices.{drop-is, head-is}
 use Rattle.pattern.proofs.SignWays.{count-stops}
-use Rattle.pattern.proofs.Walking.{inside, head-is, part-within, atom-leads, bar-leads, repeat-leads, sign-stops}
+use Rattle.pattern.proofs.Walking.{inside, part-within, atom-leads, bar-leads, repeat-leads, sign-stops}
 
 end-empty : (s : Sign) → isEnd s ≡ true → length (text s) ≡ 0
 end-empty (Plain t) e = absurd (true≢false (sym e))

@@ -36,10 +36,6 @@ settle-runs true (inClass rs s) is fr d ctx w free = absurd is
 settle-runs true (inCount f s) is fr d ctx w free = absurd is
 
 module _ (p : List ℕ) (at : ℕ) where
-  -- what stands at `at`
-  pub head-is : (b : ℕ) (w : List ℕ) → drop at p ≡ b ∷ w → getD p at 0 ≡ b
-  head-is b w is = ap (λ n. getD p n 0) (sym (add-zero at)) ∙ sym (getD-drop at p 0 0) ∙ ap (λ l. getD l 0 0) is
-
   pub part-within : (u : List ℕ) → at < length p → drop at p ≡ u ++ drop (at + length u) p → at + length u ≤ length p
   part-within u lt is =
       let long : length p - at ≡ length u + (length p - (at + length u)) = sym (length-drop at p) ∙ ap length is ∙ length-append u _ ∙ ap (λ n. length u + n) (length-drop (at + length u) p) in

@@ -6,8 +6,9 @@ use native.Mathlib.Omega.{arith}
 use Rattle.std.proofs.shelf.Results.{err-from-errBy, cases-at-none}
 use Rattle.pattern.specs.Automaton.{ready, opened}
 use Rattle.pattern.proofs.Drafting.{keeps-waits}
+use Rattle.pattern.proofs.Slices.{head-is}
 use Rattle.pattern.proofs.Groups.{too-deep, inner-stops, unfinished, group-read}
-use Rattle.pattern.proofs.Walking.{head-is, sign-stops, group-stops, walk-stops, walk-all}
+use Rattle.pattern.proofs.Walking.{sign-stops, group-stops, walk-stops, walk-all}
 use Rattle.pattern.proofs.SignSteps.{sign-within, begun, plain-of, escape-of, any-of, class-of, bar-of, star-of, opt-of, plus-of, counted-of, counted-refused, group-steps}
 use Rattle.pattern.proofs.reader.+alternatives+group+step.Needs as need
 
@@ -52,7 +53,7 @@ step-add-end g t c = record { fits = omega (arith, sign-within _ _ _ _ (c .pre .
 pub step-returns-in-Break-sign : need.step-returns-in-Break-sign
 step-returns-in-Break-sign g t c =
     let p = err-from-errBy (c .from-residual .result) (c .from-residual .ensures .1) in
-    record { cases = rw (p .1, p .2) (sign-stops _ _ _ _ _ (keeps-waits (g .T·Assembly .stands) (c .args .draft .now)) _ (c .in-Break-sign .ensures tt .cases)) }
+    record { cases = rw (p .1, p .2) (sign-stops _ _ _ _ _ (keeps-waits (g .T·Assembly .stands) (c .args .draft .now)) _ (c .in-Break-sign .ensures tt .cases .stops)) }
 
 pub step-group-requires : need.step-group-requires
 step-group-requires g t c κs =
@@ -78,7 +79,7 @@ step-returns-in-Close g t c =
 pub step-returns-in-Break-least : need.step-returns-in-Break-least
 step-returns-in-Break-least g t c =
     let p = err-from-errBy (c .from-residual-in-Break-least .result) (c .from-residual-in-Break-least .ensures .1) in
-    record { cases = rw (p .1, p .2) (counted-refused _ _ _ _ _ (keeps-waits (g .T·Assembly .stands) (c .args .draft .now)) _ _ (c .in-Continue-sign .ensures tt .cases) (c .in-Counted .is) _ (c .in-Break-least .ensures tt .cases)) }
+    record { cases = rw (p .1, p .2) (counted-refused _ _ _ _ _ (keeps-waits (g .T·Assembly .stands) (c .args .draft .now)) _ _ (c .in-Continue-sign .ensures tt .cases) (c .in-Counted .is) _ (c .in-Break-least .ensures tt .cases .stops)) }
 
 pub step-returns-in-Continue-least : need.step-returns-in-Continue-least
 step-returns-in-Continue-least g t c = record { cases = counted-of _ _ _ _ _ (keeps-waits (g .T·Assembly .stands) (c .args .draft .now)) _ _ (c .in-Continue-sign .ensures tt .cases) (c .in-Counted .is) _ _ _ _ (c .in-Continue-least .ensures tt .cases) (λ le. c .repeated-in-Counted .ensures .value _ (λ f. c .counted .ensures .value f le)) }
