@@ -1,5 +1,5 @@
--- One turn of the loop that gathers the rows of a set's members, and its end. Assumes nothing.
-use mathlib.Core.Path.{_≡_, refl, sym, ap, subst, _∙_}
+-- The rows of a set's members, gathered: turn by turn, and by members. Assumes nothing.
+use mathlib.Core.Path.{_≡_, sym, ap, subst, _∙_}
 use mathlib.Core.Bool.{cond}
 use mathlib.Core.List.{List}
 use mathlib.Core.Logic.{⊎-elim}
@@ -13,7 +13,8 @@ use lib.ListN.{getD}
 use lib.Pow.{pow-mono}
 use Rattle.std.proofs.shelf.Bits.{shr-shr}
 use Rattle.std.proofs.shelf.Tests.{cases-lt, eq-eqb, ne-eqb, cond-true, cond-false}
-use Rattle.machines.specs.Masks.{bit, Has, union, gathered}
+use Rattle.machines.specs.Masks.{bit, Has, union, gathered, Gathered}
+use Rattle.machines.proofs.Members.{zero-has, has-cases, or-has, has-or-left, has-or-right}
 
 module _ (rows : List ℕ) (set : ℕ) where
   pub union-taken : (q : ℕ) → Has set q → union rows set (q + 1) ≡ bitOr (union rows set q) (getD rows q 0)
@@ -47,3 +48,41 @@ next-shift set q rest e = ap (λ x. x / 2) e ∙ shr-shr set q 1
 
 pub low-digit : (n : ℕ) → bitAnd n 1 ≡ n % 2
 low-digit n = and-mask n 1
+
+-- the union of the rows of members
+
+abbrev Among : List ℕ → ℕ → ℕ → ℕ → Type 0
+Among rows set n p = (q : ℕ) × (q < n) × Has set q × Has (getD rows q 0) p
+
+union-has : (rows : List ℕ) (set n p : ℕ) → Has (union rows set n) p → Among rows set n p
+unfolding union
+union-has rows set zero p h = absurd (zero-has p h)
+union-has rows set (suc n) p h =
+    ⊎-elim
+    (λ x. let r = union-has rows set n p x in (r .0, (let l = r .1 in omega arith), r .2, r .3))
+    (λ x.
+    ⊎-elim
+    (λ m. (n, omega arith, m, subst (λ y. Has y p) (cond-true _ (getD rows n 0) 0 (eq-eqb (bit set n) 1 m)) x))
+    (λ m. absurd (zero-has p (subst (λ y. Has y p) (cond-false _ (getD rows n 0) 0 (ne-eqb (bit set n) 1 m)) x)))
+    (has-cases set n))
+    (or-has (union rows set n) (cond (eqb (bit set n) 1) (getD rows n 0) 0) p h)
+
+has-union : (rows : List ℕ) (set n p : ℕ) → Among rows set n p → Has (union rows set n) p
+unfolding union
+has-union rows set zero p a = absurd (let l = a .1 in omega arith)
+has-union rows set (suc n) p a =
+    ⊎-elim
+    (λ lt. has-or-left (union rows set n) _ p (has-union rows set n p (a .0, lt, a .2, a .3)))
+    (λ le.
+    let e : a .0 ≡ n = (let l = a .1 in omega arith) in
+    has-or-right (union rows set n) _ p
+    (subst (λ y. Has y p) (sym (cond-true (eqb (bit set n) 1) (getD rows n 0) 0 (eq-eqb (bit set n) 1 (subst (λ x. Has set x) e (a .2)))))
+    (subst (λ x. Has (getD rows x 0) p) e (a .3))))
+    (cases-lt (a .0) n)
+
+pub gathered-members : (rows : List ℕ) (set : ℕ) → Gathered rows set (gathered rows set)
+unfolding gathered
+gathered-members rows set p = (union-has rows set 64 p, has-union rows set 64 p)
+
+pub gathered-by : (rows : List ℕ) (set r : ℕ) → r ≡ gathered rows set → Gathered rows set r
+gathered-by rows set r e = subst (Gathered rows set) (sym e) (gathered-members rows set)

@@ -1,12 +1,12 @@
 // The machine of an expression from its parts, one call to each kind of expression. Parts are
 // values, so that repeats within repeats cost a few joins each and not their product.
 ghost use mathlib.Core.Path.{_≡_};
-ghost use Prim.Native.Nat.{ℕ, _≤_, min};
+ghost use Prim.Native.Nat.{_≤_, min};
 ghost use Rattle.std.specs.Options.{Cases};
 ghost use Rattle.pattern.specs.Expressions.{Regex, Symbol, one, seq, alt, star as star-of, opt, empty as nothing};
 ghost use Rattle.pattern.specs.Places.{places};
 ghost use Rattle.machines.specs.Fragments.{Represents};
-ghost use Rattle.machines.specs.Laws.{MeansExactly};
+ghost use Rattle.machines.specs.Laws.{Judges};
 ghost use Rattle.machines.specs.Letters.{LettersOf};
 ghost use Rattle.machines.specs.PlaceTables.{TablesOf};
 ghost use Rattle.machines.specs.Soundness.{TakesSome};
@@ -45,8 +45,7 @@ impl Fragment {
 
     // The machine of the whole, if it has at most 63 places.
     pub fn machine(&self) -> Option<PlaceMachine>
-        ensures value { λ r. ⌜ ((e : Regex) → Represents e (now (self .entry) .tables) (now (self .entry) .count) → Cases r (64 ≤ places e) (λ m. TablesOf e (m .tables))) ⌝ }
-        ensures means { λ r. ⌜ Cases r (64 ≤ now (self .entry) .count) (λ m. MeansExactly (m .tables)) ⌝ }
+        ensures value { λ r. ⌜ ((e : Regex) → Represents e (now (self .entry) .tables) (now (self .entry) .count) → Cases r (64 ≤ places e) (λ m. TablesOf e (m .tables) × Judges e (m .tables))) ⌝ }
     {
         if self.count > 63 {
             return None;

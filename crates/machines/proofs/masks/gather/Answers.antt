@@ -5,8 +5,7 @@ use native.Mathlib.Omega.{arith}
 use lib.Bits.{bitOr}
 use lib.ListN.{getD}
 use Rattle.machines.specs.Masks.{union}
-use Rattle.machines.proofs.Gathering.{union-taken, union-left, union-all, shifts-left, next-shift, low-digit}
-use Rattle.machines.proofs.Members.{gathered-by}
+use Rattle.machines.proofs.Gathering.{union-taken, union-left, union-all, shifts-left, next-shift, low-digit, gathered-by}
 use Rattle.machines.proofs.masks.gather.Needs as need
 use Rattle.machines.proofs.masks.gather.Needs.{then-rest-eq1, else-rest-eq1}
 
