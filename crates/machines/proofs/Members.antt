@@ -68,7 +68,7 @@ power-has k q h =
 
 -- a mask is told by its members
 
-low-bit : (a : ℕ) → bit a 0 ≡ a % 2
+pub low-bit : (a : ℕ) → bit a 0 ≡ a % 2
 low-bit a = ap (λ x. x % 2) (div-one a)
 
 pub high-bit : (a q : ℕ) → bit (a / 2) q ≡ bit a (1 + q)
