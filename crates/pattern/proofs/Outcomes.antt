@@ -1,7 +1,7 @@
 -- What the reader's answer at the outermost level says of the whole pattern. Assumes nothing.
 use mathlib.Core.Path.{_≡_, refl, sym, ap, _∙_, subst}
 use mathlib.Core.List.{List, [], _∷_, _++_}
-use mathlib.Core.Logic.{inl, inr}
+use mathlib.Core.Logic.{inl, inr, ∥∥₁-elim}
 use Prim.Native.Nat.{ℕ, _-_, _+_, _<_, _≤_, min}
 use native.Mathlib.Omega.{arith}
 use lib.ListN.{length, getD, drop}
@@ -18,7 +18,7 @@ use Rattle.pattern.specs.Grammar.{Written, WellWritten, lone, nothing}
 use Rattle.pattern.specs.Beginnings.{LongestBeginning}
 use Rattle.pattern.specs.Automaton.{Frame, ready, state, closed, good, bad, begin, verdict, start}
 use Rattle.pattern.specs.Refusals.{Stops, refused}
-use Rattle.pattern.specs.Reading.{Granted, Readable, Bad, Crowded, Unwritten, Refused, Assembled}
+use Rattle.pattern.specs.Reading.{Granted, Readable, Holds, Bad, Crowded, Unwritten, Refused, Assembled}
 use Rattle.pattern.specs.Walks.{AlternativesRead, AlternativesStop}
 use Rattle.pattern.proofs.Runs.{verdict-end}
 use Rattle.pattern.proofs.Slices.{stops-inside, stopped}
@@ -72,3 +72,7 @@ pub not-both : (p : List ℕ) (f : Fault) → Refused p f → Readable p → ⊥
 not-both p f (inl (long, _)) (n, granted′) = omega (arith, granted′ .short)
 not-both p f (inr (inl (_, not-well, _, _))) (n, granted′) = not-well (granted′ .expression, granted′ .written)
 not-both p f (inr (inr (_, e, is, many, _))) (n, granted′) = omega (arith, granted′ .few, ap places (one-reading p e (granted′ .expression) is (granted′ .written)))
+
+-- what a record holds is not refused
+pub held : (w p : List ℕ) (f : Fault) → Holds p → w ≡ p → Unwritten w f → ⊥
+held w p f holds is stop = ∥∥₁-elim holds (λ a b. absurd a) (λ r. not-both p f (refused-unwritten p f (subst (λ q. Unwritten q f) is stop)) r)
