@@ -1,20 +1,18 @@
 -- Masks that are combined, by what their members mean, and the tables of the empty text and of one place. Assumes nothing.
-use mathlib.Core.Path.{_≡_, refl, sym, ap, subst, _∙_}
+use mathlib.Core.Path.{_≡_, sym, ap, subst, _∙_}
 use mathlib.Core.Bool.{Bool, true, _&&_, _||_}
 use mathlib.Core.List.{List}
 use mathlib.Core.Logic.{_↔_, _⊎_, inl, inr, ⊎-elim}
 use Prim.Native.Nat.{ℕ, _-_, _≤_, _<_}
-use native.Mathlib.Omega.{arith}
 use lib.Bits.{bitOr}
 use lib.Dec.{eqb, leb, ltb}
-use lib.ListN.{getD, set, replicate, length-replicate}
-use lib.Seq.{getD-set-same, getD-set-other}
+use lib.ListN.{getD, set, replicate}
+use lib.Seq.{getD-set-other}
 use Rattle.std.specs.Orderings.{Decides}
 use Rattle.std.proofs.shelf.Lists.{getD-replicate}
 use Rattle.std.proofs.shelf.Tests.{leb-true, le-leb, cases-eq}
 use Rattle.std.proofs.shelf.Ways.{decides-and, decides-or, decides-eqb, decides-ltb}
-use Rattle.machines.specs.declared.tables.Tables.{Tables}
-use Rattle.machines.specs.Building.{nexts, takers, TablesBy}
+use Rattle.machines.specs.Building.{TablesBy}
 use Rattle.machines.specs.Masks.{Has, After}
 use Rattle.machines.proofs.Members.{or-members, zero-has, zeroth-members, place-one-members}
 

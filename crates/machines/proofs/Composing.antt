@@ -1,13 +1,11 @@
 -- Composition of relations by members: it is associative, and the identity is neutral. Assumes nothing.
-use mathlib.Core.Path.{_≡_, refl, sym, ap, subst, _∙_}
-use mathlib.Core.List.{List}
-use mathlib.Core.Logic.{_↔_}
-use Prim.Native.Nat.{ℕ, _^_, _<_}
-use lib.ListN.{getD}
+use mathlib.Core.Path.{_≡_, sym, subst}
+use Prim.Native.Nat.{ℕ, _<_}
 use Rattle.machines.specs.declared.relation.Relation.{Relation}
-use Rattle.machines.specs.Masks.{Has, gathered, Gathered}
-use Rattle.machines.specs.Relations.{rows-of, row, composed, identity, Composes, Associative}
-use Rattle.machines.proofs.Members.{gathered-members, same-masks, power-has, has-power, has-below}
+use Rattle.machines.specs.Masks.{Has, gathered}
+use Rattle.machines.specs.Relations.{row, composed, Composes, Associative}
+use Rattle.machines.proofs.Gathering.{gathered-members}
+use Rattle.machines.proofs.Members.{same-masks}
 use Rattle.machines.proofs.Rows.{rows-at, same-rows}
 
 pub same-relation : (a b : Relation) → a .rows ≡ b .rows → a ≡ b

@@ -8,7 +8,7 @@ use Rattle.pattern.specs.Places.{places}
 use Rattle.machines.specs.declared.tables.Tables.{Tables}
 use Rattle.machines.specs.Fragments.{Represents}
 use Rattle.machines.specs.Soundness.{Sane}
-use Rattle.machines.specs.Spellings.{Place, row, spread}
+use Rattle.machines.specs.Spellings.{row, spread}
 use Rattle.machines.proofs.Parts.{same-part}
 
 pub copies : {S : Type 0} → ℕ → Expr S → Expr S

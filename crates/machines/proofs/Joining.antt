@@ -1,5 +1,5 @@
 -- What comes first, ends, follows and stands in the members of two languages joined or united. Assumes nothing.
-use mathlib.Core.Path.{_≡_, refl, sym, ap, subst, _∙_}
+use mathlib.Core.Path.{_≡_, refl, sym, subst}
 use mathlib.Core.List.{List, [], _∷_, _++_, append-assoc, append-nil}
 use mathlib.Core.Logic.{_⊎_, inl, inr, ⊎-elim}
 use Rattle.pattern.specs.Meaning.{Lang, Empty, Joined, Union}

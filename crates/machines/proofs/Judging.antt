@@ -1,8 +1,8 @@
 -- The place machine of an expression leads from state 0 to an accepting state exactly by the texts that the expression
 -- means, and from every state that it reaches some text leads on to acceptance. Assumes nothing.
-use mathlib.Core.Path.{_≡_, refl, sym, ap, subst, _∙_}
+use mathlib.Core.Path.{_≡_, refl, sym, subst}
 use mathlib.Core.List.{List, [], _∷_, _++_, append-assoc}
-use mathlib.Core.Logic.{_⊎_, inl, inr, ⊎-elim}
+use mathlib.Core.Logic.{_⊎_, inr, ⊎-elim}
 use Prim.Native.Nat.{ℕ, zero, suc, _+_, _≤_, _<_}
 use native.Mathlib.Omega.{arith}
 use Rattle.folding.specs.Texts.{Bytes}
@@ -11,10 +11,10 @@ use Rattle.pattern.specs.Meaning.{Matches, Lang}
 use Rattle.pattern.specs.Places.{places}
 use Rattle.machines.specs.declared.tables.Tables.{Tables}
 use Rattle.machines.specs.Masks.{Has}
-use Rattle.machines.specs.PlaceTables.{TablesOf, Starts, Comes, Closes, Stands}
+use Rattle.machines.specs.PlaceTables.{TablesOf, Comes, Stands}
 use Rattle.machines.specs.Runs.{Leads, Reaches}
 use Rattle.machines.specs.Soundness.{Sane, TakesSome}
-use Rattle.machines.specs.Spellings.{Place, Spelling, Spells, First, Ends, Follows, On}
+use Rattle.machines.specs.Spellings.{Place, Spelling, Spells, Ends, Follows, On}
 use Rattle.machines.proofs.Joining.{on-first, on-ends, on-before, on-after}
 use Rattle.machines.proofs.Linear.{Linear, Walk}
 use Rattle.machines.proofs.Spelling.{meant-spelled, spelled-meant}

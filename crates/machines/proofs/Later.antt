@@ -1,14 +1,14 @@
 -- The tables of a language whose places are all numbered n later. Assumes nothing.
 use mathlib.Core.Path.{_≡_, refl, sym, ap, subst, _∙_}
 use mathlib.Core.List.{List, [], _∷_, _++_, map}
-use mathlib.Core.Logic.{_↔_, _⊎_, inl, inr, ⊎-elim}
+use mathlib.Core.Logic.{inl, inr, ⊎-elim}
 use Prim.Native.Nat.{ℕ, _+_, _-_, _≤_, _<_}
 use native.Mathlib.Omega.{arith}
 use Rattle.std.proofs.shelf.Lists.{map-append}
 use Rattle.pattern.specs.Expressions.{Symbol, Takes}
 use Rattle.pattern.specs.Meaning.{Lang}
 use Rattle.machines.specs.declared.tables.Tables.{Tables}
-use Rattle.machines.specs.Building.{nexts, takers, TablesBy, Later}
+use Rattle.machines.specs.Building.{nexts, takers, Later}
 use Rattle.machines.specs.Masks.{Has}
 use Rattle.machines.specs.Spellings.{Place, First, Ends, Follows, On}
 use Rattle.machines.proofs.Joining.{on-first, on-ends, on-before, on-after}

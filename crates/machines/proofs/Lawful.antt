@@ -1,5 +1,5 @@
 -- The laws of place machines. Assumes nothing.
-use mathlib.Core.Path.{_≡_, sym, ap, _∙_}
+use mathlib.Core.Path.{sym, ap, _∙_}
 use mathlib.Core.List.{[], append-nil}
 use native.Mathlib.Omega.{arith}
 use Rattle.pattern.specs.Expressions.{Takes}

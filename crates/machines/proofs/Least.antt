@@ -1,9 +1,9 @@
 -- A number that is merely known to exist and can be tested for is found: the least one. Assumes nothing.
-use mathlib.Core.Path.{_≡_, refl, sym, ap, subst, _∙_}
+use mathlib.Core.Path.{_≡_, subst}
 use mathlib.Core.Bool.{Bool, true, false, Bool-set}
 use mathlib.Core.HLevel.{Π-prop, ×-prop, Σ-prop-path}
 use mathlib.Core.Logic.{∥∥₁-elim, ⊎-elim}
-use Prim.Native.Nat.{ℕ, zero, suc, _+_, _≤_, _<_}
+use Prim.Native.Nat.{ℕ, zero, suc, _+_, _<_}
 use native.Mathlib.Omega.{arith}
 use borrow.Author.Count.{below-more}
 use Rattle.std.proofs.shelf.Tests.{cases-bool, cases-order, both-ways}

@@ -1,14 +1,13 @@
 -- Sets of bytes as rows of masks: one byte, and more bytes. Assumes nothing.
 use mathlib.Core.Path.{_≡_}
-use mathlib.Core.List.{List, [], _∷_}
+use mathlib.Core.List.{List, _∷_}
 use mathlib.Core.Logic.{_↔_, _⊎_, inl, inr, ⊎-elim, ∥∥₁-map}
 use Prim.Native.Nat.{ℕ, _≤_, _<_}
 use native.Mathlib.Omega.{arith}
 use lib.ListN.{getD}
-use Rattle.pattern.specs.Expressions.{Symbol, Takes, byte}
+use Rattle.pattern.specs.Expressions.{Symbol, byte}
 use Rattle.machines.specs.Letters.{LettersOf, SomeLetters, Widens}
 use Rattle.machines.specs.Masks.{Has}
-use Rattle.machines.specs.Soundness.{TakesSome}
 
 -- the rows of one range of bytes
 abbrev pub RangeRows : ℕ → ℕ → List ℕ → Type 0

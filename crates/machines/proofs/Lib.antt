@@ -1,3 +1,4 @@
+pub mod Chains
 pub mod Combining
 pub mod Composing
 pub mod Copies
@@ -21,6 +22,7 @@ pub mod Searching
 pub mod Shifts
 pub mod Spelling
 pub mod Splits
-pub mod Symbols
 pub mod Spread
+pub mod Symbols
 pub mod Tabling
+pub mod Uniting

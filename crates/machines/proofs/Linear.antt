@@ -3,9 +3,9 @@
 --   Walk L q ps   from q on, each place of ps follows the one before it, and the last ends a member of L
 --   Linear L a b  L has a member, its places are those numbered from a to b - 1, each on some member and with one symbol,
 --                 and each walk from a first place is a member
-use mathlib.Core.Path.{_≡_, refl, sym, ap, subst, _∙_}
+use mathlib.Core.Path.{_≡_, refl, sym, ap, _∙_}
 use mathlib.Core.List.{List, [], _∷_, _++_}
-use mathlib.Core.Logic.{_⊎_, inl, inr, ⊎-elim}
+use mathlib.Core.Logic.{inl, inr, ⊎-elim}
 use Prim.Native.Nat.{ℕ, _+_, _≤_, _<_}
 use native.Mathlib.Omega.{arith}
 use Rattle.pattern.specs.Expressions.{one}

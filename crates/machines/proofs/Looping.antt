@@ -1,15 +1,14 @@
 -- The tables of a closure, of a language or nothing, of the empty text and of one place. Assumes nothing.
-use mathlib.Core.Path.{_≡_, refl, sym, ap, subst, _∙_}
-use mathlib.Core.List.{List, [], _∷_, _++_}
-use mathlib.Core.Logic.{_↔_, _⊎_, inl, inr, ⊎-elim}
-use Prim.Native.Nat.{ℕ, _+_, _≤_, _<_}
+use mathlib.Core.Path.{_≡_, refl, sym, ap, subst}
+use mathlib.Core.List.{[], _∷_}
+use mathlib.Core.Logic.{inl, inr, ⊎-elim}
+use Prim.Native.Nat.{ℕ}
 use native.Mathlib.Omega.{arith}
 use Rattle.pattern.specs.Expressions.{Symbol, Takes}
 use Rattle.pattern.specs.Meaning.{Lang, Empty, Union, Closure}
 use Rattle.machines.specs.declared.tables.Tables.{Tables}
-use Rattle.machines.specs.Building.{nexts, takers, TablesBy, Loops, Passes}
-use Rattle.machines.specs.Masks.{Has}
-use Rattle.machines.specs.Spellings.{Place, First, Ends, Follows, On}
+use Rattle.machines.specs.Building.{TablesBy, Loops, Passes}
+use Rattle.machines.specs.Spellings.{Place, On}
 use Rattle.machines.proofs.Joining.{union-first, union-ends, union-follows, union-on, first-larger, ends-larger, follows-larger, on-larger, none-on, on-first, on-ends, on-before}
 use Rattle.machines.proofs.Linear.{Single, single-on, single-follows}
 use Rattle.machines.proofs.Repeating.{closure-once, closure-none, closure-first, closure-ends, closure-follows, closure-on, follows-round}

@@ -1,15 +1,14 @@
 -- The place machine judges: what it says of a leg is what the expression says of the text. Assumes nothing.
-use mathlib.Core.Path.{_≡_, refl, sym, ap, subst, _∙_}
+use mathlib.Core.Path.{_≡_, refl, sym, subst}
 use mathlib.Core.Bool.{Bool, true, false, not, Bool-set}
 use mathlib.Core.HLevel.{⊥-prop}
 use mathlib.Core.List.{List, [], _∷_, _++_}
-use mathlib.Core.Logic.{_↔_, _⊎_, inl, inr, ⊎-elim, ∥∥₁-elim, ∥∥₁-map}
-use Prim.Native.Nat.{ℕ, zero, suc, _+_, _≤_, _<_}
+use mathlib.Core.Logic.{_↔_, inl, ∥∥₁-elim, ∥∥₁-map}
+use Prim.Native.Nat.{ℕ, zero, suc, _<_}
 use native.Mathlib.Bridge.{le-prop}
 use native.Mathlib.Omega.{arith}
 use lib.Bits.{bitAnd}
 use lib.Dec.{eqb}
-use lib.ListN.{getD, length}
 use Rattle.std.specs.Orderings.{Decides, When}
 use Rattle.std.proofs.shelf.Tests.{eqb-true, eqb-false, ne-eqb, not-true, not-from-false}
 use Rattle.folding.specs.Sets.{Hopeful, Lost}

@@ -1,18 +1,14 @@
 -- The members of masks: of a union, an intersection, one bit, and that a mask is told by its members. Assumes nothing.
 use mathlib.Core.Path.{_≡_, refl, sym, ap, subst, _∙_}
-use mathlib.Core.Bool.{true, false, cond}
-use mathlib.Core.List.{List}
 use mathlib.Core.Logic.{_↔_, _⊎_, inl, inr, ⊎-elim}
-use Prim.Native.Nat.{ℕ, zero, suc, _+_, _-_, _*_, _/_, _%_, _^_, _≤_, _<_, min, max}
+use Prim.Native.Nat.{ℕ, _+_, _-_, _*_, _/_, _%_, _^_, _≤_, _<_, min, max}
 use native.Mathlib.Nat.{div-one, div-eq-of-lt, zero-div}
 use native.Mathlib.Omega.{arith}
 use lib.Arith.{bin-ind}
 use lib.Bits.{bitAnd, bitOr, or-step, and-step}
-use lib.Dec.{eqb}
-use lib.ListN.{getD}
-use Rattle.std.proofs.shelf.Bits.{pow-pos, pow-add, shl-shr, shr-shr, or-shr, and-shr, pow-below}
-use Rattle.std.proofs.shelf.Tests.{cases-lt, cases-eq, cases-order, eqb-true, eqb-false, cond-true, cond-false, cond-both, eq-eqb}
-use Rattle.machines.specs.Masks.{bit, Has, union, gathered, Gathered}
+use Rattle.std.proofs.shelf.Bits.{pow-add, shl-shr, shr-shr, or-shr, and-shr, pow-below}
+use Rattle.std.proofs.shelf.Tests.{cases-lt, cases-eq, cases-order}
+use Rattle.machines.specs.Masks.{bit, Has}
 
 pub bit-or : (a b q : ℕ) → bit (bitOr a b) q ≡ max (bit a q) (bit b q)
 bit-or a b q = ap (λ x. x % 2) (or-shr a b q) ∙ (let s = or-step (a / 2 ^ q) (b / 2 ^ q) in omega arith)
@@ -72,7 +68,7 @@ power-has k q h =
 
 -- a mask is told by its members
 
-low-bit : (a : ℕ) → bit a 0 ≡ a % 2
+pub low-bit : (a : ℕ) → bit a 0 ≡ a % 2
 low-bit a = ap (λ x. x % 2) (div-one a)
 
 pub high-bit : (a q : ℕ) → bit (a / 2) q ≡ bit a (1 + q)
@@ -105,44 +101,6 @@ same-masks = bin-ind (λ n. (b : ℕ) → Same n b → n ≡ b)
     let high : n / 2 ≡ b / 2 = more (b / 2) (λ q. (λ h. high-bit b q ∙ same (1 + q) .0 (sym (high-bit n q) ∙ h), λ h. high-bit n q ∙ same (1 + q) .1 (sym (high-bit b q) ∙ h))) in
     let low : n % 2 ≡ b % 2 = sym (low-bit n) ∙ same-bit n b 0 (same 0) ∙ low-bit b in
     omega arith)
-
--- the union of the rows of members
-
-abbrev Among : List ℕ → ℕ → ℕ → ℕ → Type 0
-Among rows set n p = (q : ℕ) × (q < n) × Has set q × Has (getD rows q 0) p
-
-union-has : (rows : List ℕ) (set n p : ℕ) → Has (union rows set n) p → Among rows set n p
-unfolding union
-union-has rows set zero p h = absurd (zero-has p h)
-union-has rows set (suc n) p h =
-    ⊎-elim
-    (λ x. let r = union-has rows set n p x in (r .0, (let l = r .1 in omega arith), r .2, r .3))
-    (λ x.
-    ⊎-elim
-    (λ m. (n, omega arith, m, subst (λ y. Has y p) (cond-true _ (getD rows n 0) 0 (eq-eqb (bit set n) 1 m)) x))
-    (λ m. absurd (zero-has p (subst (λ y. Has y p) (cond-false _ (getD rows n 0) 0 (Rattle.std.proofs.shelf.Tests.ne-eqb (bit set n) 1 m)) x)))
-    (has-cases set n))
-    (or-has (union rows set n) (cond (eqb (bit set n) 1) (getD rows n 0) 0) p h)
-
-has-union : (rows : List ℕ) (set n p : ℕ) → Among rows set n p → Has (union rows set n) p
-unfolding union
-has-union rows set zero p a = absurd (let l = a .1 in omega arith)
-has-union rows set (suc n) p a =
-    ⊎-elim
-    (λ lt. has-or-left (union rows set n) _ p (has-union rows set n p (a .0, lt, a .2, a .3)))
-    (λ le.
-    let e : a .0 ≡ n = (let l = a .1 in omega arith) in
-    has-or-right (union rows set n) _ p
-    (subst (λ y. Has y p) (sym (cond-true (eqb (bit set n) 1) (getD rows n 0) 0 (eq-eqb (bit set n) 1 (subst (λ x. Has set x) e (a .2)))))
-    (subst (λ x. Has (getD rows x 0) p) e (a .3))))
-    (cases-lt (a .0) n)
-
-pub gathered-members : (rows : List ℕ) (set : ℕ) → Gathered rows set (gathered rows set)
-unfolding gathered
-gathered-members rows set p = (union-has rows set 64 p, has-union rows set 64 p)
-
-pub gathered-by : (rows : List ℕ) (set r : ℕ) → r ≡ gathered rows set → Gathered rows set r
-gathered-by rows set r e = subst (Gathered rows set) (sym e) (gathered-members rows set)
 
 pub or-members : (a b p : ℕ) → Has (bitOr a b) p ↔ (Has a p ⊎ Has b p)
 or-members a b p = (or-has a b p, ⊎-elim (has-or-left a b p) (has-or-right a b p))

@@ -1,7 +1,7 @@
 -- A language whose places are all numbered n later. Assumes nothing.
 use mathlib.Core.Path.{_≡_, refl, sym, ap, subst, _∙_}
 use mathlib.Core.List.{List, [], _∷_, _++_, map}
-use mathlib.Core.Logic.{_⊎_, inl, inr, ⊎-elim}
+use mathlib.Core.Logic.{inl, inr, ⊎-elim}
 use Prim.Native.Nat.{ℕ, zero, suc, _+_, _-_, _*_}
 use native.Mathlib.Omega.{arith}
 use Rattle.std.specs.shelf.Lists.{All, joined}
@@ -11,7 +11,6 @@ use Rattle.pattern.specs.Meaning.{Lang, Empty, Joined, Union, Closure, Means}
 use Rattle.pattern.specs.Places.{places}
 use Rattle.machines.specs.Spellings.{Place, row, spread, SpellingFrom}
 use Rattle.machines.proofs.Repeating.{closure-none, closure-more}
-use Rattle.machines.proofs.Splits.{head-same, tail-same, not-empty}
 
 module _ {S : Type 0} (n : ℕ) where
   abbrev pub up : Place S → Place S

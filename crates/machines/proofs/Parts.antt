@@ -1,26 +1,27 @@
 -- The parts of a machine, put together: what represents two expressions represents the one that is made of them. Assumes nothing.
-use mathlib.Core.Path.{_≡_, refl, sym, ap, subst, _∙_}
-use mathlib.Core.List.{List, [], _∷_}
+use mathlib.Core.Path.{_≡_, refl, ap, subst, _∙_}
+use mathlib.Core.List.{List}
 use mathlib.Core.Logic.{∥∥₁-map, ∥∥₁-map₂}
-use Prim.Native.Nat.{ℕ, _+_, _*_, _≤_, _<_, min}
+use Prim.Native.Nat.{ℕ, _+_, _≤_, min}
 use native.Mathlib.Omega.{arith}
 use lib.ListN.{getD}
-use Rattle.pattern.specs.Expressions.{Expr, one, empty, seq, alt, star, plus, opt, counted, Regex, Symbol}
-use Rattle.pattern.specs.Meaning.{Lang, Means}
+use Rattle.pattern.specs.Expressions.{one, empty, seq, alt, star, plus, opt, Regex, Symbol}
+use Rattle.pattern.specs.Meaning.{Means}
 use Rattle.pattern.specs.Places.{places}
 use Rattle.machines.specs.declared.tables.Tables.{Tables}
-use Rattle.machines.specs.Building.{nexts, takers, TablesBy, Later, Then, Either, Loops, Passes}
+use Rattle.machines.specs.Building.{TablesBy, Later, Then, Either, Loops, Passes}
 use Rattle.machines.specs.Fragments.{Represents, Part}
 use Rattle.machines.specs.Letters.{LettersOf, SomeLetters}
 use Rattle.machines.specs.Masks.{Has}
-use Rattle.machines.specs.PlaceTables.{TablesOf, Made}
+use Rattle.machines.specs.PlaceTables.{Made}
 use Rattle.machines.specs.Soundness.{Sane, TakesSome}
 use Rattle.machines.specs.Spellings.{Place, spread, Spelling, SpellingFrom}
 use Rattle.machines.proofs.Later.{later-tables}
 use Rattle.machines.proofs.Looping.{closure-tables, opt-tables, empty-tables, single-tables}
 use Rattle.machines.proofs.Moving.{spread-moves}
 use Rattle.machines.proofs.Spread.{spread-linear}
-use Rattle.machines.proofs.Tabling.{TablesFor, of-for, for-of, joined-tables, union-tables}
+use Rattle.machines.proofs.Tabling.{TablesFor, of-for, for-of, joined-tables}
+use Rattle.machines.proofs.Uniting.{union-tables}
 
 pub empty-part : (t : Tables) → TablesBy t (λ q p. ⊥) (λ c p. ⊥) (λ p. p ≡ 0) → Represents empty t 0
 empty-part t by = record { sane = tt; count = refl; tables = λ few. of-for empty t few (empty-tables t by) }

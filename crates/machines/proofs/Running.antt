@@ -1,9 +1,7 @@
 -- What a text does to sets of states, by the tables: member by member, and for two texts joined. Assumes nothing.
 use mathlib.Core.Path.{_≡_, refl, sym, ap, subst, _∙_}
-use mathlib.Core.List.{List, [], _∷_, _++_, append-nil}
-use Prim.Native.Nat.{ℕ, _+_, _^_, _≤_, _<_}
-use native.Mathlib.Omega.{arith}
-use lib.Bits.{bitAnd}
+use mathlib.Core.List.{List, [], _∷_, _++_}
+use Prim.Native.Nat.{ℕ, _^_, _<_}
 use lib.ListN.{getD}
 use Rattle.machines.specs.declared.relation.Relation.{Relation}
 use Rattle.machines.specs.declared.tables.Tables.{Tables}
@@ -11,7 +9,8 @@ use Rattle.machines.specs.Masks.{Has, gathered}
 use Rattle.machines.specs.Relations.{rows-of, row, composed, identity}
 use Rattle.machines.specs.Runs.{moved, after, leg}
 use Rattle.machines.proofs.Composing.{same-relation}
-use Rattle.machines.proofs.Members.{gathered-members, same-masks, and-has, has-and, power-has, has-power}
+use Rattle.machines.proofs.Gathering.{gathered-members}
+use Rattle.machines.proofs.Members.{same-masks, and-has, has-and, power-has, has-power}
 use Rattle.machines.proofs.Rows.{rows-at, same-rows}
 
 module _ (t : Tables) where

@@ -1,6 +1,6 @@
 -- A text that leads from a state to acceptance can be found by trying: if there merely is one, here is one. Assumes nothing.
-use mathlib.Core.Path.{_≡_, refl, sym, ap, subst, _∙_}
-use mathlib.Core.Bool.{Bool, true, false, _&&_, _||_}
+use mathlib.Core.Path.{refl}
+use mathlib.Core.Bool.{Bool, false, _&&_, _||_}
 use mathlib.Core.List.{List, [], _∷_}
 use mathlib.Core.Logic.{∥∥₁-map}
 use Prim.Native.Nat.{ℕ, zero, suc, _<_}

@@ -1,7 +1,7 @@
 -- A text is meant exactly if a spelling spells it. Assumes nothing.
 use mathlib.Core.Path.{_≡_, refl, sym, ap, subst, _∙_}
 use mathlib.Core.List.{List, [], _∷_, _++_}
-use mathlib.Core.Logic.{_⊎_, inl, inr, ⊎-elim}
+use mathlib.Core.Logic.{inl, inr, ⊎-elim}
 use Prim.Native.Nat.{ℕ, zero, suc, _+_, _-_, _*_}
 use Rattle.std.specs.shelf.Lists.{All, joined}
 use Rattle.pattern.specs.Expressions.{Expr, one, empty, seq, alt, star, plus, opt, counted}

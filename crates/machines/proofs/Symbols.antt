@@ -1,9 +1,8 @@
 -- The symbols of the places of an expression are symbols of the expression, and a sequence of places can be spelled. Assumes nothing.
-use mathlib.Core.Path.{_≡_, sym, ap, subst}
+use mathlib.Core.Path.{_≡_, sym, subst}
 use mathlib.Core.List.{List, [], _∷_, _++_, append-assoc}
 use mathlib.Core.Logic.{⊎-elim}
 use Prim.Native.Nat.{ℕ, zero, suc, _+_, _-_, _*_}
-use Rattle.std.specs.shelf.Lists.{All}
 use Rattle.pattern.specs.Expressions.{Expr, one, empty, seq, alt, star, plus, opt, counted, Symbol, Takes}
 use Rattle.pattern.specs.Meaning.{Lang, Empty, Union, Closure, Means}
 use Rattle.pattern.specs.Places.{places}

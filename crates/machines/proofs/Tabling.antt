@@ -1,18 +1,18 @@
--- Tables that represent a language over places, and those of two languages joined or united. Assumes nothing.
-use mathlib.Core.Path.{_≡_, refl, sym, ap, subst, _∙_}
-use mathlib.Core.List.{List, [], _∷_, _++_}
-use mathlib.Core.Logic.{_↔_, _⊎_, inl, inr, ⊎-elim}
-use Prim.Native.Nat.{ℕ, zero, suc, _+_, _≤_, _<_}
+-- Tables that represent a language over places, and those of two languages joined. Assumes nothing.
+use mathlib.Core.Path.{refl, subst}
+use mathlib.Core.List.{List, [], _∷_}
+use mathlib.Core.Logic.{_↔_, inl, inr, ⊎-elim}
+use Prim.Native.Nat.{ℕ, _≤_, _<_}
 use native.Mathlib.Omega.{arith}
 use Rattle.pattern.specs.Expressions.{Regex, Symbol, Takes}
-use Rattle.pattern.specs.Meaning.{Lang, Joined, Union}
+use Rattle.pattern.specs.Meaning.{Lang, Joined}
 use Rattle.pattern.specs.Places.{places}
 use Rattle.machines.specs.declared.tables.Tables.{Tables}
-use Rattle.machines.specs.Building.{nexts, takers, Then, Either}
+use Rattle.machines.specs.Building.{nexts, takers, Then}
 use Rattle.machines.specs.Masks.{Has}
 use Rattle.machines.specs.PlaceTables.{TablesOf}
 use Rattle.machines.specs.Spellings.{Place, Spelling, Spells, First, Ends, Follows, On}
-use Rattle.machines.proofs.Joining.{Member, joined-first, first-left, first-right, joined-ends, ends-left, ends-right, joined-follows, follows-left, follows-right, follows-across, joined-on, joined-on-left, joined-on-right, union-first, union-ends, union-follows, union-on, first-larger, ends-larger, follows-larger, on-larger}
+use Rattle.machines.proofs.Joining.{Member, joined-first, first-left, first-right, joined-ends, ends-left, ends-right, joined-follows, follows-left, follows-right, follows-across, joined-on, joined-on-left, joined-on-right}
 use Rattle.machines.proofs.Spelling.{meant-spelled, spelled-meant}
 use Rattle.machines.proofs.Splits.{both-empty}
 
@@ -121,53 +121,5 @@ module _ (L M : Lang (Place Symbol)) (a b r : Tables) (l : TablesFor L a) (m : T
           let (u, v, e, x, y) = j in
           let (no-u, no-v) = both-empty u v e in
           by .accepts 0 .1 (inr (m .start .1 (subst M no-v y), l .start .1 (subst L no-u x))),
-    );
-  }
-
-  pub union-tables : Either a b r → TablesFor (Union L M) r
-  union-tables by = record {
-    first = λ p. (
-      λ h.
-          ⊎-elim
-          (λ x. let (s, f) = l .first p .0 x in (s, first-larger L (Union L M) (λ ps. inl) (p, s) f))
-          (λ x. let (s, f) = m .first p .0 x in (s, first-larger M (Union L M) (λ ps. inr) (p, s) f))
-          (by .rows 0 p (omega arith) .0 h),
-      λ f.
-          by .rows 0 p (omega arith) .1
-          (⊎-elim (λ x. inl (l .first p .1 (f .0, x))) (λ x. inr (m .first p .1 (f .0, x))) (union-first L M (p, f .0) (f .1))),
-    );
-    follow = λ q p low high. (
-      λ h.
-          ⊎-elim
-          (λ x. let (s, u, f) = l .follow q p low high .0 x in (s, u, follows-larger L (Union L M) (λ ps. inl) (q, s) (p, u) f))
-          (λ x. let (s, u, f) = m .follow q p low high .0 x in (s, u, follows-larger M (Union L M) (λ ps. inr) (q, s) (p, u) f))
-          (by .rows q p high .0 h),
-      λ f.
-          by .rows q p high .1
-          (⊎-elim (λ x. inl (l .follow q p low high .1 (f .0, f .1, x))) (λ x. inr (m .follow q p low high .1 (f .0, f .1, x))) (union-follows L M (q, f .0) (p, f .1) (f .2))),
-    );
-    takes = λ c p byte. (
-      λ h.
-          ⊎-elim
-          (λ x. let (s, o, k) = l .takes c p byte .0 x in (s, on-larger L (Union L M) (λ ps. inl) (p, s) o, k))
-          (λ x. let (s, o, k) = m .takes c p byte .0 x in (s, on-larger M (Union L M) (λ ps. inr) (p, s) o, k))
-          (by .takes c p byte .0 h),
-      λ f.
-          by .takes c p byte .1
-          (⊎-elim (λ x. inl (l .takes c p byte .1 (f .0, x, f .2))) (λ x. inr (m .takes c p byte .1 (f .0, x, f .2))) (union-on L M (p, f .0) (f .1))),
-    );
-    ends = λ p low. (
-      λ h.
-          ⊎-elim
-          (λ x. let (s, f) = l .ends p low .0 x in (s, ends-larger L (Union L M) (λ ps. inl) (p, s) f))
-          (λ x. let (s, f) = m .ends p low .0 x in (s, ends-larger M (Union L M) (λ ps. inr) (p, s) f))
-          (by .accepts p .0 h),
-      λ f.
-          by .accepts p .1
-          (⊎-elim (λ x. inl (l .ends p low .1 (f .0, x))) (λ x. inr (m .ends p low .1 (f .0, x))) (union-ends L M (p, f .0) (f .1))),
-    );
-    start = (
-      λ h. ⊎-elim (λ x. inl (l .start .0 x)) (λ x. inr (m .start .0 x)) (by .accepts 0 .0 h),
-      λ j. by .accepts 0 .1 (⊎-elim (λ x. inl (l .start .1 x)) (λ x. inr (m .start .1 x)) j),
     );
   }

@@ -2,6 +2,7 @@
 --
 --   SpelledExactly   a text is meant exactly if some spelling has as many places as it has bytes, each taking its byte
 --   EachPlaceLives   every place lies on some spelling
+--   Judges e t       the texts that t means are those that e matches
 --   MeansExactly t   t means what its expression means
 --   ReachesExactly t   the leg of a text is, for each state, the set reached by it
 --   JoinsExactly t   the leg of two texts joined is the legs composed
@@ -27,8 +28,11 @@ SpelledExactly = (e : Regex) (w : List ℕ) → Matches e w ↔ Spelled Takes e 
 abbrev pub EachPlaceLives : Type 0
 EachPlaceLives = (e : Regex) → Sane e → (p : ℕ) → 1 ≤ p → p ≤ places e → (s : Symbol) × On (Spelling e) (p, s)
 
+abbrev pub Judges : Regex → Tables → Type 0
+Judges e t = (w : List ℕ) → Bytes w → Meant t w ↔ Matches e w
+
 abbrev pub MeansExactly : Tables → Type 0
-MeansExactly t = (e : Regex) → Sane e → TablesOf e t → (w : List ℕ) → Bytes w → Meant t w ↔ Matches e w
+MeansExactly t = (e : Regex) → Sane e → TablesOf e t → Judges e t
 
 abbrev pub ReachesExactly : Tables → Type 0
 ReachesExactly t = (e : Regex) → Sane e → TablesOf e t → (w : List ℕ) → Bytes w → Reached e (leg t w) w

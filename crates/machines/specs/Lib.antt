@@ -8,3 +8,4 @@ pub mod Relations
 pub mod Runs
 pub mod Soundness
 pub mod Spellings
+pub mod Standing

@@ -1,15 +1,15 @@
 // The machine of an expression from its parts, one call to each kind of expression. Parts are
 // values, so that repeats within repeats cost a few joins each and not their product.
 ghost use mathlib.Core.Path.{_≡_};
-ghost use Prim.Native.Nat.{ℕ, _≤_, min};
+ghost use Prim.Native.Nat.{_≤_, min};
 ghost use Rattle.std.specs.Options.{Cases};
 ghost use Rattle.pattern.specs.Expressions.{Regex, Symbol, one, seq, alt, star as star-of, opt, empty as nothing};
 ghost use Rattle.pattern.specs.Places.{places};
-ghost use Rattle.machines.specs.Fragments.{Represents};
-ghost use Rattle.machines.specs.Laws.{MeansExactly};
+ghost use Rattle.machines.specs.Laws.{Judges};
 ghost use Rattle.machines.specs.Letters.{LettersOf};
 ghost use Rattle.machines.specs.PlaceTables.{TablesOf};
 ghost use Rattle.machines.specs.Soundness.{TakesSome};
+ghost use Rattle.machines.specs.Standing.{StandsFor};
 use crate::fragment::Fragment;
 use crate::letters::Letters;
 use crate::place::PlaceMachine;
@@ -18,7 +18,7 @@ use crate::tables::Tables;
 impl Fragment {
     // The empty text.
     pub fn empty() -> Fragment
-        ensures value { λ r. ⌜ Represents nothing (r .tables) (r .count) ⌝ }
+        ensures value { λ r. ⌜ StandsFor nothing r ⌝ }
     {
         Fragment {
             tables: Tables::none(),
@@ -28,7 +28,7 @@ impl Fragment {
 
     // One place.
     pub fn place(letters: &Letters) -> Fragment
-        ensures value { λ r. ⌜ ((s : Symbol) → TakesSome s → LettersOf s (now (letters .entry) .takes) → Represents (one s) (r .tables) (r .count)) ⌝ }
+        ensures value { λ r. ⌜ ((s : Symbol) → TakesSome s → LettersOf s (now (letters .entry) .takes) → StandsFor (one s) r) ⌝ }
     {
         Fragment {
             tables: Tables::place(letters.takes),
@@ -38,15 +38,14 @@ impl Fragment {
 
     // How many places the part has, counted up to 64.
     pub fn places(&self) -> u8
-        ensures value { λ r. ⌜ ((e : Regex) → Represents e (now (self .entry) .tables) (now (self .entry) .count) → r ≡ min (places e) 64) ⌝ }
+        ensures value { λ r. ⌜ ((e : Regex) → StandsFor e (now (self .entry)) → r ≡ min (places e) 64) ⌝ }
     {
         self.count
     }
 
     // The machine of the whole, if it has at most 63 places.
     pub fn machine(&self) -> Option<PlaceMachine>
-        ensures value { λ r. ⌜ ((e : Regex) → Represents e (now (self .entry) .tables) (now (self .entry) .count) → Cases r (64 ≤ places e) (λ m. TablesOf e (m .tables))) ⌝ }
-        ensures means { λ r. ⌜ Cases r (64 ≤ now (self .entry) .count) (λ m. MeansExactly (m .tables)) ⌝ }
+        ensures value { λ r. ⌜ ((e : Regex) → StandsFor e (now (self .entry)) → Cases r (64 ≤ places e) (λ m. TablesOf e (m .tables) × Judges e (m .tables))) ⌝ }
     {
         if self.count > 63 {
             return None;
@@ -56,7 +55,7 @@ impl Fragment {
 
     // This and then `second`.
     pub fn then(&self, second: &Fragment) -> Fragment
-        ensures value { λ r. ⌜ ((e f : Regex) → Represents e (now (self .entry) .tables) (now (self .entry) .count) → Represents f (now (second .entry) .tables) (now (second .entry) .count) → Represents (seq e f) (r .tables) (r .count)) ⌝ }
+        ensures value { λ r. ⌜ ((e f : Regex) → StandsFor e (now (self .entry)) → StandsFor f (now (second .entry)) → StandsFor (seq e f) r) ⌝ }
     {
         let count = self.count + second.count;
         if count > 63 {
@@ -73,7 +72,7 @@ impl Fragment {
 
     // This or `other`.
     pub fn either(&self, other: &Fragment) -> Fragment
-        ensures value { λ r. ⌜ ((e f : Regex) → Represents e (now (self .entry) .tables) (now (self .entry) .count) → Represents f (now (other .entry) .tables) (now (other .entry) .count) → Represents (alt e f) (r .tables) (r .count)) ⌝ }
+        ensures value { λ r. ⌜ ((e f : Regex) → StandsFor e (now (self .entry)) → StandsFor f (now (other .entry)) → StandsFor (alt e f) r) ⌝ }
     {
         let count = self.count + other.count;
         if count > 63 {
@@ -90,7 +89,7 @@ impl Fragment {
 
     // This any number of times.
     pub fn star(&self) -> Fragment
-        ensures value { λ r. ⌜ ((e : Regex) → Represents e (now (self .entry) .tables) (now (self .entry) .count) → Represents (star-of e) (r .tables) (r .count)) ⌝ }
+        ensures value { λ r. ⌜ ((e : Regex) → StandsFor e (now (self .entry)) → StandsFor (star-of e) r) ⌝ }
     {
         Fragment {
             tables: self.tables.looped(),
@@ -100,7 +99,7 @@ impl Fragment {
 
     // This or nothing.
     pub fn optional(&self) -> Fragment
-        ensures value { λ r. ⌜ ((e : Regex) → Represents e (now (self .entry) .tables) (now (self .entry) .count) → Represents (opt e) (r .tables) (r .count)) ⌝ }
+        ensures value { λ r. ⌜ ((e : Regex) → StandsFor e (now (self .entry)) → StandsFor (opt e) r) ⌝ }
     {
         Fragment {
             tables: self.tables.spared(),

@@ -22,17 +22,6 @@ pub(crate) fn both(a: &[u64; 256], b: &[u64; 256]) -> [u64; 256]
     takes
 }
 
-// Place 1 takes the bytes from `low` to `high`.
-pub(crate) fn between(low: u8, high: u8) -> [u64; 256]
-    ensures members { λ r. ⌜ ((c p : ℕ) → c < 256 → Has (getD r c 0) p ↔ ((p ≡ 1) × ((low ≤ c) × (c ≤ high)))) ⌝ }
-{
-    let mut takes = [0; 256];
-    for c in 0..256 {
-        takes[c] = only(2, (low as usize <= c) & (c <= high as usize));
-    }
-    takes
-}
-
 impl Tables {
     // No place: only the empty text.
     pub(crate) fn none() -> Tables

@@ -1,7 +1,24 @@
 // The bytes that a place takes.
+ghost use mathlib.Core.Path.{_≡_};
+ghost use mathlib.Core.Logic.{_↔_};
+ghost use Prim.Native.Nat.{ℕ, _≤_, _<_};
+ghost use lib.ListN.{getD};
 ghost use Rattle.pattern.specs.Expressions.{Symbol, byte as byte-of};
 ghost use Rattle.machines.specs.Letters.{LettersOf, SomeLetters, Widens};
-use crate::combine;
+ghost use Rattle.machines.specs.Masks.{Has};
+use crate::combine::both;
+use crate::masks::only;
+
+// Place 1 takes the bytes from `low` to `high`.
+fn between(low: u8, high: u8) -> [u64; 256]
+    ensures members { λ r. ⌜ ((c p : ℕ) → c < 256 → Has (getD r c 0) p ↔ ((p ≡ 1) × ((low ≤ c) × (c ≤ high)))) ⌝ }
+{
+    let mut takes = [0; 256];
+    for c in 0..256 {
+        takes[c] = only(2, (low as usize <= c) & (c <= high as usize));
+    }
+    takes
+}
 
 // Row c has place 1 if byte c is taken: at least one is.
 #[derive(Clone, Copy)]
@@ -15,7 +32,7 @@ impl Letters {
         ensures value { λ r. ⌜ LettersOf (byte-of byte) (r .takes) ⌝ }
     {
         Letters {
-            takes: combine::between(byte, byte),
+            takes: between(byte, byte),
         }
     }
 
@@ -24,7 +41,7 @@ impl Letters {
         ensures value { λ r. ⌜ ((s s′ : Symbol) → Widens s low high s′ → LettersOf s (now (self .entry) .takes) → LettersOf s′ (r .takes)) ⌝ }
     {
         Letters {
-            takes: combine::both(&self.takes, &combine::between(low, high)),
+            takes: both(&self.takes, &between(low, high)),
         }
     }
 }

@@ -6,21 +6,17 @@ ghost use Prim.Native.Nat.{ℕ, _≤_, _<_};
 ghost use Rattle.std.specs.Orderings.{Decides};
 ghost use Rattle.machines.specs.Masks.{Has, After, gathered, Gathered};
 
-// The union of the rows of the members of `set`. The loop ends behind the highest member, so that
-// small sets cost little and an empty one nothing.
+// The union of the rows of the members of `set`, one turn to a member.
 pub fn gather(rows: &[u64; 64], set: u64) -> u64
     ensures value { λ r. ⌜ r ≡ gathered (now (rows .entry)) set ⌝ }
     ensures members { λ r. ⌜ Gathered (now (rows .entry)) set r ⌝ }
 {
     let mut all = 0;
     let mut rest = set;
-    let mut q = 0;
     while rest != 0 {
-        if rest & 1 == 1 {
-            all |= rows[q];
-        }
-        rest >>= 1;
-        q += 1;
+        let q = rest.trailing_zeros() as usize;
+        all |= rows[q];
+        rest ^= 1 << q;
     }
     all
 }

@@ -1,10 +1,10 @@
 // The numbers of places, a type of their own: no other machine's number is taken for one.
 ghost use mathlib.Core.Path.{_≡_};
-ghost use Prim.Native.Nat.{_≤_, _<_, _^_};
+ghost use Prim.Native.Nat.{_≤_, _<_};
 ghost use Rattle.std.specs.Options.{Cases};
 
 // A place's number, or 0 for the state before all places.
-#[derive(Clone, Copy, PartialEq, Eq)]
+#[derive(Clone, Copy)]
 pub struct PlaceNo {
     number: u8,
     ghost small: { number < 64 },

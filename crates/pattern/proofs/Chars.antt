@@ -52,7 +52,7 @@ office-low plain b h e = absurd (true≢false (sym e))
 pub escapable-low : (b : ℕ) → escapable b ≡ true → b ≤ 125
 escapable-low b e =
     ⊎-elim (λ o. office-low (kind b) b (has b) o)
-    (λ rest. ⊎-elim (λ h. omega (arith, eqb-true b 45 h)) (λ h. omega (arith, eqb-true b 94 h)) (or-cases _ _ rest))
+    (λ rest. ⊎-elim (λ (h : eqb b 45 ≡ true). omega (arith, eqb-true b 45 h)) (λ (h : eqb b 94 ≡ true). omega (arith, eqb-true b 94 h)) (or-cases _ _ rest))
     (or-cases _ _ e)
 
 -- the byte that has this office inside a class

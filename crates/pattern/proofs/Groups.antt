@@ -7,6 +7,7 @@ use lib.ListN.{length, getD, drop}
 use Rattle.fault.specs.declared.Fault.{Fault}
 use Rattle.fault.specs.declared.Refusal.the-variants.{BadlyWritten}
 use Rattle.pattern.specs.Characters.{kind}
+use Rattle.pattern.specs.Expressions.{Regex}
 use Rattle.pattern.specs.Automaton.{Frame, ready, after, state, opened, closed, begin, verdict}
 use Rattle.pattern.specs.Refusals.{Stops, refused}
 use Rattle.pattern.specs.Walks.{Halts, GroupRead, GroupStops, AlternativesRead, AlternativesStop}
@@ -24,13 +25,13 @@ module _ (p : List ℕ) (at : ℕ) (lt : at < length p) (paren : getD p at 0 ≡
     pub inner-stops : (d : ℕ) (f : Fault) → d ≡ suc k → AlternativesStop p (at + 1) k f → GroupStops p at d f
     inner-stops d f is stop fr ctx = subst (λ n. Stops p f (verdict (state ready fr n ctx) (drop at p))) (sym is) (subst (Stops p f) (sym (opens fr ctx)) (stop (fr ∷ ctx)))
 
-    pub unfinished : (d end n : ℕ) (f : Fault) → d ≡ suc k → AlternativesRead p (at + 1) k end n → length p ≤ end → f ≡ refused BadlyWritten end → GroupStops p at d f
-    unfinished d end n f is read ge fault fr ctx =
+    pub unfinished : (d end : ℕ) (E : Regex → Type 0) (f : Fault) → d ≡ suc k → AlternativesRead p (at + 1) k end E → length p ≤ end → f ≡ refused BadlyWritten end → GroupStops p at d f
+    unfinished d end E f is read ge fault fr ctx =
         subst (λ n. Stops p f (verdict (state ready fr n ctx) (drop at p))) (sym is)
         (stopped p f end _ fault (read .within) (opens fr ctx ∙ read .runs (fr ∷ ctx) ∙ stops-at p end _ (read .within) refl (λ inside. absurd (omega arith))))
 
-    pub group-read : (d end n : ℕ) → d ≡ suc k → AlternativesRead p (at + 1) k end n → end < length p → GroupRead p at d (end + 1) n
-    group-read d end n is read inside =
+    pub group-read : (d end : ℕ) (E : Regex → Type 0) → d ≡ suc k → AlternativesRead p (at + 1) k end E → end < length p → GroupRead p at d (end + 1) E
+    group-read d end E is read inside =
         let before = read .forward in
         record {
           forward = omega arith;

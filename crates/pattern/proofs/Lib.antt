@@ -17,8 +17,10 @@ pub mod ClassWays
 pub mod ClassLoop
 pub mod SignWays
 pub mod Caps
+pub mod Drafting
 pub mod Walking
 pub mod Groups
 pub mod SignSteps
 pub mod Outcomes
 pub mod Worked
+pub mod SignShapes

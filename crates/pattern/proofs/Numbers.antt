@@ -14,7 +14,7 @@ use Rattle.fault.specs.declared.Refusal.the-variants.{BadlyWritten}
 use Rattle.pattern.specs.Expressions.{Regex}
 use Rattle.pattern.specs.Automaton.{Frame, State, state, inCount, awaiting, digits, CountState, CountKind, digit, comma, ended, other, CountNext, noCount, counting, Stage, bound, canBegin, canGoOn, countKind, countNext, ofCount, alive, dead, stepOf, verdict}
 use Rattle.pattern.specs.Refusals.{Stops, refused}
-use Rattle.pattern.specs.Repeats.{NumberRead, NumberStops}
+use Rattle.pattern.specs.Repeats.{NumberRead, NumberRefused}
 use Rattle.pattern.proofs.Chars.{digit-kind}
 use Rattle.pattern.proofs.CountRuns.{decimal-two}
 use Rattle.pattern.proofs.Slices.{drop-is, moves, stops-at, stopped}
@@ -32,14 +32,20 @@ go-on-is : (b n k : ℕ) (s : Stage) (r : Bool) → b ≡ 48 + k → k < 10 → 
 go-on-is b n k s r is small can = ap (λ t. countNext t (digits s n)) (ap countKind is ∙ digit-kind k small) ∙ ap (λ t. cond t (counting (digits s (10 * n + k))) noCount) can
 
 module _ (p : List ℕ) (at low : ℕ) where
-  pub no-digit : (f : Fault) → at ≤ length p → ((k : ℕ) → countKind (getD p at 0) ≡ digit k → at < length p → ⊥) → f ≡ refused BadlyWritten at → NumberStops p at low f
-  no-digit f le none is s _ e fr d ctx =
-      stopped p f at _ is le (stops-at p at _ le refl (λ lt. ap (λ n. ofCount n e fr d ctx) (awaits-digit _ s (λ k told. none k told lt))))
+  pub no-digit : (f : Fault) → at ≤ length p → ((k : ℕ) → countKind (getD p at 0) ≡ digit k → at < length p → ⊥) → f ≡ refused BadlyWritten at → NumberRefused p at low f
+  no-digit f le none is = record {
+    is = is;
+    stops = λ s _ e fr d ctx.
+        stopped p f at _ is le (stops-at p at _ le refl (λ lt. ap (λ n. ofCount n e fr d ctx) (awaits-digit _ s (λ k told. none k told lt))));
+  }
 
-  pub cannot-begin : (f : Fault) (k : ℕ) → at < length p → k < 10 → getD p at 0 ≡ 48 + k → canBegin low k ≡ false → f ≡ refused BadlyWritten at → NumberStops p at low f
-  cannot-begin f k lt small byte cannot is s low-is e fr d ctx =
-      stopped p f at _ is (omega arith)
-      (stops-at p at _ (omega arith) refl (λ _. ap (λ n. ofCount n e fr d ctx) (begin-is _ k s false byte small (ap (λ m. canBegin m k) low-is ∙ cannot))))
+  pub cannot-begin : (f : Fault) (k : ℕ) → at < length p → k < 10 → getD p at 0 ≡ 48 + k → canBegin low k ≡ false → f ≡ refused BadlyWritten at → NumberRefused p at low f
+  cannot-begin f k lt small byte cannot is = record {
+    is = is;
+    stops = λ s low-is e fr d ctx.
+        stopped p f at _ is (omega arith)
+        (stops-at p at _ (omega arith) refl (λ _. ap (λ n. ofCount n e fr d ctx) (begin-is _ k s false byte small (ap (λ m. canBegin m k) low-is ∙ cannot))));
+  }
 
   pub one-digit : (k : ℕ) → at < length p → k < 10 → getD p at 0 ≡ 48 + k → canBegin low k ≡ true
       → ((n : ℕ) → countKind (getD p (at + 1) 0) ≡ digit n → at + 1 < length p → canGoOn low k n ≡ false) → NumberRead p at low k (at + 1)

@@ -3,9 +3,10 @@ use mathlib.Core.Path.{_≡_, refl, sym, ap, _∙_, subst}
 use mathlib.Core.List.{List, [], _∷_, _++_}
 use mathlib.Core.Logic.{⊎-elim}
 use Prim.Native.Nat.{ℕ, suc, _+_, _-_, _<_, _≤_}
+use native.Mathlib.Nat.{add-zero}
 use native.Mathlib.Omega.{arith}
 use lib.ListN.{length, getD, take, drop, length-drop, take-append-drop}
-use Rattle.std.proofs.shelf.Lists.{drop-more, drop-all, drop-drop, take-at, length-take-le}
+use Rattle.std.proofs.shelf.Lists.{drop-more, drop-all, drop-drop, getD-drop, take-at, length-take-le}
 use Rattle.std.proofs.shelf.Tests.{cases-lt}
 use Rattle.fault.specs.declared.Fault.{Fault}
 use Rattle.fault.specs.declared.Refusal.the-variants.{BadlyWritten}
@@ -16,6 +17,10 @@ use Rattle.pattern.proofs.Runs.{verdict-alive, verdict-dead, verdict-end}
 module _ (p : List ℕ) where
   pub drop-is : (at b : ℕ) → at < length p → getD p at 0 ≡ b → drop at p ≡ b ∷ drop (at + 1) p
   drop-is at b lt is = drop-more p at 0 lt ∙ ap (λ x. x ∷ drop (at + 1) p) is
+
+  -- what stands at `at`
+  pub head-is : (at b : ℕ) (w : List ℕ) → drop at p ≡ b ∷ w → getD p at 0 ≡ b
+  head-is at b w is = ap (λ n. getD p n 0) (sym (add-zero at)) ∙ sym (getD-drop at p 0 0) ∙ ap (λ l. getD l 0 0) is
 
   pub moves : (at b : ℕ) (s t : State) → at < length p → getD p at 0 ≡ b → stepOf s b ≡ alive t → verdict s (drop at p) ≡ verdict t (drop (at + 1) p)
   moves at b s t lt is goes = ap (verdict s) (drop-is at b lt is) ∙ verdict-alive s t b _ goes

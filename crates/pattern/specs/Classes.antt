@@ -53,3 +53,8 @@ pub record ClassRead (p : List ℕ) (at end : ℕ) : Type 0 where
 
 abbrev pub ClassStops : List ℕ → ℕ → Fault → Type 0
 ClassStops p at f = (fr : Frame) (d : ℕ) (ctx : List Frame) → Stops p f (verdict (state (inClass [] fresh) fr d ctx) (drop at p))
+
+-- no class stands from `at` on, and the fault has its place
+pub record ClassRefused (p : List ℕ) (at : ℕ) (f : Fault) : Type 0 where
+  pub none : (n : ℕ) (rs : List Range) → Members (take n (drop at p)) rs → 0 < length rs → at + n < length p → getD p (at + n) 0 ≡ 93 → ⊥
+  pub stops : ClassStops p at f

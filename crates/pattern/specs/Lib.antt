@@ -7,7 +7,7 @@ pub mod Beginnings
 pub mod Automaton
 pub mod Refusals
 pub mod Signs
-pub mod Counting
+pub mod Drafts
 pub mod Reading
 pub mod Repeats
 pub mod Classes

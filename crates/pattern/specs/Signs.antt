@@ -8,13 +8,13 @@ use mathlib.Core.Bool.{Bool, true, false}
 use mathlib.Core.List.{List, [], _∷_, _++_}
 use Prim.Native.Nat.{ℕ, _+_, _<_, _≤_}
 use lib.Dec.{leb}
-use lib.ListN.{length, drop}
+use lib.ListN.{length, take, drop}
 use Rattle.fault.specs.declared.Fault.{Fault}
 use Rattle.pattern.specs.declared.sign.Sign.{Sign}
 use Rattle.pattern.specs.declared.sign.Sign.the-variants.{Plain, Escape, Any, Class, Bar, Star, Plus, Question, Counted, Open, Close, End}
 use Rattle.pattern.specs.Characters.{kind, plain, escapable}
-use Rattle.pattern.specs.Expressions.{Range}
-use Rattle.pattern.specs.Grammar.{Members, Counts}
+use Rattle.pattern.specs.Expressions.{Range, Regex}
+use Rattle.pattern.specs.Grammar.{Members, Counts, Atom, Repeated}
 use Rattle.pattern.specs.Automaton.{Frame, Mode, ready, after, escape, inClass, inCount, state, verdict}
 use Rattle.pattern.specs.Refusals.{Stops}
 
@@ -32,6 +32,14 @@ text (Counted t) = t .now
 text (Open t) = t .now
 text (Close t) = t .now
 text End = []
+
+-- the texts of signs, where a repeat may stand and where it may not
+pub data SignText : Bool → List ℕ → Type 0 where
+  an-atom : {r : Bool} {w : List ℕ} {e : Regex} → Atom (λ _ _. ⊥) w e → SignText r w
+  a-bar : {r : Bool} → SignText r (124 ∷ [])
+  an-open : {r : Bool} → SignText r (40 ∷ [])
+  a-close : {r : Bool} → SignText r (41 ∷ [])
+  a-repeat : {w : List ℕ} {e f : Regex} → Repeated w e f → SignText true w
 
 abbrev pub Formed : Bool → Sign → Type 0
 Formed repeatable (Plain t) = (b : ℕ) × (t .now ≡ b ∷ []) × (kind b ≡ plain)
@@ -76,6 +84,11 @@ Waits true (inCount f c) = ⊥
 
 abbrev pub SignStops : List ℕ → ℕ → Bool → Fault → Type 0
 SignStops p at repeatable f = (m : Mode) → Waits repeatable m → (fr : Frame) (d : ℕ) (ctx : List Frame) → Stops p f (verdict (state m fr d ctx) (drop at p))
+
+-- no sign stands at `at`, and the fault has its place
+pub record SignRefused (p : List ℕ) (at : ℕ) (repeatable : Bool) (f : Fault) : Type 0 where
+  pub none : (n : ℕ) → SignText repeatable (take n (drop at p)) → ⊥
+  pub stops : SignStops p at repeatable f
 
 pub record Handed (p : List ℕ) (at : ℕ) (repeatable : Bool) (s : Sign) : Type 0 where
   pub formed : Formed repeatable s

@@ -4,7 +4,7 @@ ghost use Prim.Native.Nat.{_≤_};
 ghost use lib.ListN.{length};
 ghost use Rattle.std.specs.Results.{Cases};
 ghost use Rattle.pattern.specs.Characters.{escapable, classKind, isItself};
-ghost use Rattle.pattern.specs.Classes.{Follows, ClassRead, ClassStops};
+ghost use Rattle.pattern.specs.Classes.{Follows, ClassRead, ClassRefused};
 use crate::refusal::badly_written;
 use fault::Fault;
 
@@ -88,7 +88,7 @@ impl Progress {
 // Where the bracket stands that ends the class.
 pub fn end(p: &[u8], at: usize) -> Result<usize, Fault>
     requires within { ⌜ at ≤ length (now p) ⌝ }
-    ensures cases { λ r. ⌜ Cases r (λ end. ClassRead (now (p .entry)) at end) (λ f. ClassStops (now (p .entry)) at f) ⌝ }
+    ensures cases { λ r. ⌜ Cases r (λ end. ClassRead (now (p .entry)) at end) (λ f. ClassRefused (now (p .entry)) at f) ⌝ }
 {
     let mut progress = Progress::Empty;
     for i in at..p.len() {

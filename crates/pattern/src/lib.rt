@@ -1,8 +1,10 @@
 // Patterns: how they are written, read and refused, and what they mean.
+pub mod assembly;
 mod class;
 mod copy;
+mod count;
+mod draft;
 pub mod examples;
-mod places;
 mod reader;
 pub mod record;
 mod refusal;

@@ -6,9 +6,12 @@ ghost use Prim.Native.Nat.{_≤_};
 ghost use lib.ListN.{take};
 ghost use Rattle.std.specs.Orderings.{Decides};
 ghost use Rattle.std.specs.Results.{Cases, isOk};
-ghost use Rattle.pattern.specs.Grammar.{One-reading};
+ghost use Rattle.pattern.specs.Expressions.{Regex};
+ghost use Rattle.pattern.specs.Grammar.{Written, deepest, One-reading};
 ghost use Rattle.pattern.specs.Reading.{Holds, Readable, Granted, Refused};
+use crate::assembly::Assembly;
 use crate::copy::copied;
+use crate::verdict::assemble;
 use crate::verdict::judge;
 use fault::Fault;
 
@@ -34,6 +37,16 @@ impl Pattern {
         ensures value { λ r. ⌜ now r ≡ take (now (self .entry) .len) (now (self .entry) .bytes) ⌝ }
     {
         &self.bytes[0..self.len]
+    }
+
+    // What the pattern is put together as.
+    pub fn assemble<T: Assembly>(&self) -> T
+        ensures value { λ r. ⌜ ((e : Regex) → Written deepest (take (now (self .entry) .len) (now (self .entry) .bytes)) e → T·Assembly .stands r e) ⌝ }
+    {
+        match assemble(self.bytes()) {
+            Ok(part) => part,
+            Err(_) => unreachable(),
+        }
     }
 
     // The number of places.

@@ -6,7 +6,7 @@ ghost use Rattle.std.specs.Options.{Cases as BySome};
 ghost use Rattle.std.specs.Orderings.{Decides};
 ghost use Rattle.std.specs.Results.{Cases};
 ghost use Rattle.pattern.specs.Automaton.{countKind, digit, canBegin, canGoOn};
-ghost use Rattle.pattern.specs.Repeats.{NumberRead, NumberStops, CountsRead, CountsStop};
+ghost use Rattle.pattern.specs.Repeats.{NumberRead, NumberRefused, CountsRead, CountsRefused};
 use crate::refusal::badly_written;
 use fault::Fault;
 
@@ -43,7 +43,7 @@ fn can_go_on(least: u8, first: u8, second: u8) -> bool
 // A count is at most 32, so it has one or two digits.
 fn number(p: &[u8], at: usize, least: u8) -> Result<(u8, usize), Fault>
     requires within { ⌜ at ≤ length (now p) ⌝ }
-    ensures cases { λ r. ⌜ Cases r (λ o. NumberRead (now (p .entry)) at least (o .0) (o .1)) (λ f. NumberStops (now (p .entry)) at least f) ⌝ }
+    ensures cases { λ r. ⌜ Cases r (λ o. NumberRead (now (p .entry)) at least (o .0) (o .1)) (λ f. NumberRefused (now (p .entry)) at least f) ⌝ }
 {
     let Some(first) = digit_at(p, at) else {
         return Err(badly_written(at));
@@ -68,7 +68,7 @@ fn closes(p: &[u8], at: usize, least: u8, most: u8) -> bool
 
 pub fn counts(p: &[u8], at: usize) -> Result<((u8, u8), usize), Fault>
     requires within { ⌜ at ≤ length (now p) ⌝ }
-    ensures cases { λ r. ⌜ Cases r (λ o. CountsRead (now (p .entry)) at (o .0 .0) (o .0 .1) (o .1)) (λ f. CountsStop (now (p .entry)) at f) ⌝ }
+    ensures cases { λ r. ⌜ Cases r (λ o. CountsRead (now (p .entry)) at (o .0 .0) (o .0 .1) (o .1)) (λ f. CountsRefused (now (p .entry)) at f) ⌝ }
 {
     let (least, end) = number(p, at, 0)?;
     if end >= p.len() {

@@ -6,7 +6,7 @@ ghost use lib.ListN.{length, getD};
 ghost use Rattle.std.specs.Results.{Cases};
 ghost use Rattle.fault.specs.declared.Refusal.the-variants.{BadlyWritten};
 ghost use Rattle.pattern.specs.Refusals.{refused};
-ghost use Rattle.pattern.specs.Signs.{text, Handed, SignStops};
+ghost use Rattle.pattern.specs.Signs.{text, Handed, SignRefused};
 use crate::class;
 use crate::refusal::badly_written;
 use crate::repeat;
@@ -65,7 +65,7 @@ fn repeat_sign(sign: Sign, at: usize, after: bool) -> Result<Sign, Fault>
 
 fn counted(p: &[u8], at: usize, after: bool) -> Result<Sign, Fault>
     requires brace { ⌜ (at < length (now p)) × (getD (now p) at 0 ≡ 123) ⌝ }
-    ensures cases { λ r. ⌜ Cases r (λ s. Handed (now (p .entry)) at after s) (λ f. SignStops (now (p .entry)) at after f) ⌝ }
+    ensures cases { λ r. ⌜ Cases r (λ s. Handed (now (p .entry)) at after s) (λ f. SignRefused (now (p .entry)) at after f) ⌝ }
 {
     if !after {
         return Err(badly_written(at));
@@ -76,7 +76,7 @@ fn counted(p: &[u8], at: usize, after: bool) -> Result<Sign, Fault>
 
 fn class_sign(p: &[u8], at: usize, after: bool) -> Result<Sign, Fault>
     requires bracket { ⌜ (at < length (now p)) × (getD (now p) at 0 ≡ 91) ⌝ }
-    ensures cases { λ r. ⌜ Cases r (λ s. Handed (now (p .entry)) at after s) (λ f. SignStops (now (p .entry)) at after f) ⌝ }
+    ensures cases { λ r. ⌜ Cases r (λ s. Handed (now (p .entry)) at after s) (λ f. SignRefused (now (p .entry)) at after f) ⌝ }
 {
     let end = class::end(p, at + 1)?;
     Ok(Sign::Class(&p[at + 1..end]))
@@ -84,7 +84,7 @@ fn class_sign(p: &[u8], at: usize, after: bool) -> Result<Sign, Fault>
 
 fn escape(p: &[u8], at: usize, after: bool) -> Result<Sign, Fault>
     requires backslash { ⌜ (at < length (now p)) × (getD (now p) at 0 ≡ 92) ⌝ }
-    ensures cases { λ r. ⌜ Cases r (λ s. Handed (now (p .entry)) at after s) (λ f. SignStops (now (p .entry)) at after f) ⌝ }
+    ensures cases { λ r. ⌜ Cases r (λ s. Handed (now (p .entry)) at after s) (λ f. SignRefused (now (p .entry)) at after f) ⌝ }
 {
     if at + 1 >= p.len() {
         return Err(badly_written(at + 1));
@@ -97,7 +97,7 @@ fn escape(p: &[u8], at: usize, after: bool) -> Result<Sign, Fault>
 
 // The sign at `at`, where `after` says that an atom stands before it that can still be repeated.
 pub fn sign_at(p: &[u8], at: usize, after: bool) -> Result<Sign, Fault>
-    ensures cases { λ r. ⌜ Cases r (λ s. Handed (now (p .entry)) at after s) (λ f. SignStops (now (p .entry)) at after f) ⌝ }
+    ensures cases { λ r. ⌜ Cases r (λ s. Handed (now (p .entry)) at after s) (λ f. SignRefused (now (p .entry)) at after f) ⌝ }
 {
     if at >= p.len() {
         return Ok(Sign::End);

@@ -1,7 +1,10 @@
 // Whether a pattern is read or refused, in the order of the refusals.
 ghost use mathlib.Core.Path.{_≡_};
 ghost use Rattle.std.specs.Results.{Cases};
-ghost use Rattle.pattern.specs.Reading.{Granted, Refused};
+ghost use Rattle.pattern.specs.Reading.{Granted, Refused, Assembled, Unwritten};
+use crate::assembly::Assembly;
+use crate::count::Count;
+use crate::count::Counting;
 use crate::reader::alternatives;
 use crate::refusal::badly_written;
 use crate::refusal::refuse;
@@ -14,19 +17,27 @@ const DEEPEST: u8 = 16;
 
 const MOST_PLACES: u8 = 63;
 
-// The number of places.
-pub fn judge(bytes: &[u8]) -> Result<u8, Fault>
-    ensures cases { λ r. ⌜ Cases r (λ n. Granted (now (bytes .entry)) n) (λ f. Refused (now (bytes .entry)) f) ⌝ }
+// What a pattern is put together as, however many places it has.
+pub fn assemble<T: Assembly>(bytes: &[u8]) -> Result<T, Fault>
+    ensures cases { λ r. ⌜ Cases r (λ a. Assembled (T·Assembly .stands) (now (bytes .entry)) a) (λ f. Unwritten (now (bytes .entry)) f) ⌝ }
 {
     if bytes.len() > LONGEST {
         return Err(refuse(Refusal::PatternTooLong, bytes.len()));
     }
-    let (end, places) = alternatives(bytes, 0, DEEPEST)?;
+    let (end, part) = alternatives(bytes, 0, DEEPEST)?;
     if end < bytes.len() {
         return Err(badly_written(end));
     }
-    if places > MOST_PLACES {
+    Ok(part)
+}
+
+// The number of places.
+pub fn judge(bytes: &[u8]) -> Result<u8, Fault>
+    ensures cases { λ r. ⌜ Cases r (λ n. Granted (now (bytes .entry)) n) (λ f. Refused (now (bytes .entry)) f) ⌝ }
+{
+    let count = assemble::<Count>(bytes)?;
+    if count.places > MOST_PLACES {
         return Err(refuse(Refusal::TooManyPlaces, 0));
     }
-    Ok(places)
+    Ok(count.places)
 }

@@ -1,37 +1,34 @@
-use mathlib.Core.Path.{_≡_, refl, sym, ap, _∙_}
-use Prim.Native.Nat.{_+_, _%_, _<_}
-use native.Mathlib.Nat.{div-one}
-use native.Mathlib.Omega.{arith}
-use lib.Bits.{bitOr}
+use mathlib.Core.Path.{refl, sym, subst}
+use Prim.Native.Nat.{_<_}
+use lib.Bits.{bitOr, bitXor}
+use lib.Count.{trailingZeros}
 use lib.ListN.{getD}
-use Rattle.machines.specs.Masks.{union}
-use Rattle.machines.proofs.Gathering.{union-taken, union-left, union-all, shifts-left, next-shift, low-digit}
-use Rattle.machines.proofs.Members.{gathered-by}
+use Rattle.std.proofs.shelf.Bits.{one-shl}
+use Rattle.machines.proofs.Gathering.{Left, left-none, left-more, left-all, gathered-by, lowest-low}
 use Rattle.machines.proofs.masks.gather.Needs as need
-use Rattle.machines.proofs.masks.gather.Needs.{then-rest-eq1, else-rest-eq1}
 
 pub loop-rest-holds : need.loop-rest-holds
-unfolding union
-loop-rest-holds c = (sym (div-one (c .args .set)), refl, omega arith)
+loop-rest-holds c = left-none (c .args .rows .now) (c .args .set) (c .fits .set .fits)
 
 pub loop-rest-again : need.loop-rest-again
 loop-rest-again c =
     let rows = c .args .rows .now in
-    let set = c .args .set in
     let rest = c .loop-rest .rest in
-    let q = c .loop-rest .q in
-    let was = c .loop-rest .inv in
-    let lt : q < 64 = shifts-left set q (c .fits .set .fits) (λ z. c .loop-rest-test .taken (was .0 ∙ z)) in
-    let digit = ap (λ x. x % 2) (sym (was .0)) ∙ sym (low-digit rest) in
-    let all : c .if-rest-eq1 .all ≡ union rows set (q + 1) =
-    elim (c .if-rest-eq1 .came) [
-      | then-rest-eq1 w ↦ w .all-is ∙ ap (λ x. bitOr x (getD rows q 0)) (was .1) ∙ sym (union-taken rows set q (digit ∙ w .if-rest-eq1 .taken))
-      | else-rest-eq1 w ↦ w .all-is ∙ was .1 ∙ sym (union-left rows set q (λ h. w .if-rest-eq1 .left (sym digit ∙ h)))
-    ] in
-    (next-shift set q rest (was .0), all, omega arith)
+    let all = c .loop-rest .all in
+    let q = trailingZeros 64 rest in
+    let some = c .loop-rest-test .taken in
+    subst (λ x. Left rows (c .args .set) (bitXor rest x) (bitOr all (getD rows q 0))) (sym (one-shl q 64 (lowest-low rest q refl (c .loop-rest .inv .small) some)))
+    (left-more rows (c .args .set) rest all q refl some (c .loop-rest .inv) .0)
+
+pub loop-rest-less : need.loop-rest-less
+loop-rest-less c =
+    let rest = c .loop-rest .rest in
+    let q = trailingZeros 64 rest in
+    let some = c .loop-rest-test .taken in
+    subst (λ x. bitXor rest x < rest) (sym (one-shl q 64 (lowest-low rest q refl (c .loop-rest .inv .small) some)))
+    (left-more (c .args .rows .now) (c .args .set) rest (c .loop-rest .all) q refl some (c .loop-rest .inv) .1)
 
 pub returns : need.returns
 returns c =
-    let was = c .loop-rest .inv in
-    let all = was .1 ∙ union-all (c .args .rows .now) (c .args .set) (c .loop-rest .q) (was .2) (sym (was .0) ∙ c .loop-rest-test .left) in
+    let all = left-all (c .args .rows .now) (c .args .set) (c .loop-rest .rest) (c .loop-rest .all) (c .loop-rest-test .left) (c .loop-rest .inv) in
     record { value = all; members = gathered-by (c .args .rows .now) (c .args .set) (c .loop-rest .all) all }

@@ -1,7 +1,5 @@
-use mathlib.Core.Path.{sym, ap, _∙_}
-use Prim.Native.Nat.{_^_}
 use lib.ListN.{getD}
-use Rattle.machines.specs.Runs.{moved, leg}
+use Rattle.machines.specs.Runs.{moved}
 use Rattle.machines.proofs.Rows.{filled-all}
 use Rattle.machines.proofs.Running.{leg-more}
 use Rattle.machines.proofs.place.PlaceFolding.step.Needs as need

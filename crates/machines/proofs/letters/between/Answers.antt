@@ -2,7 +2,7 @@ use mathlib.Core.Path.{_≡_}
 use Prim.Native.Nat.{_≤_}
 use Rattle.machines.proofs.Combining.{range-has}
 use Rattle.machines.proofs.Rows.{filled-by-more, filled-by-all}
-use Rattle.machines.proofs.combine.between.Needs as need
+use Rattle.machines.proofs.letters.between.Needs as need
 
 pub loop-c-again : need.loop-c-again
 loop-c-again c =
