@@ -3,7 +3,7 @@ ghost use mathlib.Core.Path.{_≡_};
 ghost use Prim.Native.Nat.{_≤_};
 ghost use lib.ListN.{length, take};
 
-pub fn copied(bytes: &[u8]) -> [u8; 256]
+pub(crate) fn copied(bytes: &[u8]) -> [u8; 256]
     requires fits { ⌜ length (now bytes) ≤ 256 ⌝ }
     ensures front { λ r. ⌜ take (length (now (bytes .entry))) r ≡ now (bytes .entry) ⌝ }
 {

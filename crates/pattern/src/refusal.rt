@@ -6,7 +6,7 @@ use fault::Fault;
 use fault::Layer;
 use fault::Refusal;
 
-pub fn refuse(refusal: Refusal, place: usize) -> Fault
+pub(crate) fn refuse(refusal: Refusal, place: usize) -> Fault
     ensures value { λ r. ⌜ r ≡ refused refusal place ⌝ }
 {
     Fault {
@@ -16,7 +16,7 @@ pub fn refuse(refusal: Refusal, place: usize) -> Fault
     }
 }
 
-pub fn badly_written(place: usize) -> Fault
+pub(crate) fn badly_written(place: usize) -> Fault
     ensures value { λ r. ⌜ r ≡ refused BadlyWritten place ⌝ }
 {
     refuse(Refusal::BadlyWritten, place)

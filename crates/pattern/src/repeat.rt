@@ -66,7 +66,7 @@ fn closes(p: &[u8], at: usize, least: u8, most: u8) -> bool
     at < p.len() && p[at] as char == '}' && least <= most
 }
 
-pub fn counts(p: &[u8], at: usize) -> Result<((u8, u8), usize), Fault>
+pub(crate) fn counts(p: &[u8], at: usize) -> Result<((u8, u8), usize), Fault>
     requires within { ⌜ at ≤ length (now p) ⌝ }
     ensures cases { λ r. ⌜ Cases r (λ o. CountsRead (now (p .entry)) at (o .0 .0) (o .0 .1) (o .1)) (λ f. CountsRefused (now (p .entry)) at f) ⌝ }
 {

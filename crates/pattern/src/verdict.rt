@@ -18,7 +18,7 @@ const DEEPEST: u8 = 16;
 const MOST_PLACES: u8 = 63;
 
 // What a pattern is put together as, however many places it has.
-pub fn assemble<T: Assembly>(bytes: &[u8]) -> Result<T, Fault>
+pub(crate) fn assemble<T: Assembly>(bytes: &[u8]) -> Result<T, Fault>
     ensures cases { λ r. ⌜ Cases r (λ a. Assembled (T·Assembly .stands) (now (bytes .entry)) a) (λ f. Unwritten (now (bytes .entry)) f) ⌝ }
 {
     if bytes.len() > LONGEST {
@@ -32,7 +32,7 @@ pub fn assemble<T: Assembly>(bytes: &[u8]) -> Result<T, Fault>
 }
 
 // The number of places.
-pub fn judge(bytes: &[u8]) -> Result<u8, Fault>
+pub(crate) fn judge(bytes: &[u8]) -> Result<u8, Fault>
     ensures cases { λ r. ⌜ Cases r (λ n. Granted (now (bytes .entry)) n) (λ f. Refused (now (bytes .entry)) f) ⌝ }
 {
     let count = assemble::<Count>(bytes)?;
