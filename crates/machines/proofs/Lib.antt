@@ -1,3 +1,4 @@
+pub mod ClassSymbols
 pub mod Combining
 pub mod Composing
 pub mod Copies
@@ -24,3 +25,4 @@ pub mod Splits
 pub mod Symbols
 pub mod Spread
 pub mod Tabling
+pub mod Whole
