@@ -1,4 +1,5 @@
 pub mod Chains
+pub mod ClassSymbols
 pub mod Combining
 pub mod Composing
 pub mod Copies
@@ -26,3 +27,4 @@ pub mod Spread
 pub mod Symbols
 pub mod Tabling
 pub mod Uniting
+pub mod Whole

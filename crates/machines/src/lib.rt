@@ -1,7 +1,9 @@
 // The machines that are built from a pattern.
+pub mod assembling;
 pub mod build;
 mod combine;
 pub mod fragment;
+pub mod gathered;
 pub mod letters;
 pub mod masks;
 pub mod place;

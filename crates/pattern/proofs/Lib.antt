@@ -14,6 +14,7 @@ pub mod Slices
 pub mod Numbers
 pub mod CountWays
 pub mod ClassWays
+pub mod ClassDone
 pub mod ClassLoop
 pub mod SignWays
 pub mod Caps

@@ -1,13 +1,13 @@
 -- The step of the recursive reader over each sign that was handed out. Assumes nothing.
 use mathlib.Core.Path.{_≡_, refl, sym, ap, _∙_, subst}
 use mathlib.Core.Bool.{Bool, true, false}
-use mathlib.Core.List.{List, [], _∷_, _++_, append-assoc}
+use mathlib.Core.List.{List, [], _∷_, _++_}
 use mathlib.Core.Logic.{⊎-elim}
-use Prim.Native.Nat.{ℕ, _+_, _≤_, _<_}
+use Prim.Native.Nat.{ℕ, _+_, _-_, _≤_, _<_}
 use native.Mathlib.Omega.{arith}
 use lib.Dec.{leb}
 use denote.Ref.{RefT}
-use lib.ListN.{length, getD, drop}
+use lib.ListN.{length, getD, take, drop}
 use Rattle.std.proofs.shelf.Tests.{cases-lt, true≢false, le-leb}
 use Rattle.fault.specs.declared.Fault.{Fault}
 use Rattle.pattern.specs.declared.sign.Sign.{Sign}
@@ -18,13 +18,14 @@ use Rattle.pattern.specs.Grammar.{Members, Counts, exactly, between, Repeated,
 use Rattle.pattern.specs.Automaton.{Frame, Mode, ready, after, inClass, fresh, state, begin, verdict}
 use Rattle.pattern.specs.Drafts.{AtomKept, BarKept, RepeatKept}
 use Rattle.pattern.specs.Signs.{text, isEnd, Formed, Handed, Waits}
+use Rattle.pattern.specs.Classes.{ClassHeard, ClassStops}
 use Rattle.pattern.specs.Repeats.{CountsRead, CountsStop}
 use Rattle.pattern.specs.Walks.{Leads, Steps, StepStops, GroupRead}
 use Rattle.pattern.proofs.Runs.{NoRepeat, isRepeat, verdict-alive}
 use Rattle.pattern.proofs.ClassRuns.{class-runs}
 use Rattle.pattern.proofs.Completes.{escape-runs}
-use Rattle.pattern.proofs.Slices.{drop-is, head-is}
-use Rattle.pattern.proofs.SignWays.{count-stops}
+use Rattle.pattern.proofs.Slices.{drop-is, head-is, split-at, moves}
+use Rattle.pattern.proofs.SignWays.{count-stops, class-stops}
 use Rattle.pattern.proofs.Walking.{inside, part-within, atom-leads, bar-leads, repeat-leads, sign-stops}
 
 end-empty : (s : Sign) → isEnd s ≡ true → length (text s) ≡ 0
@@ -77,11 +78,6 @@ module _ (p : List ℕ) (at d n : ℕ) (r : Bool) (K K′ : Mode → Frame → T
   pub any-steps : u ≡ 46 ∷ [] → AtomKept K K′ (one any) → Steps p at d K (at + n) K′
   any-steps is told = atom (46 ∷ []) (one any) is (omega arith) refl (λ fr ctx w. verdict-alive _ _ 46 w refl) told
 
-  pub class-steps : (v : List ℕ) (rs : List Range) → u ≡ 91 ∷ (v ++ 93 ∷ []) → Members v rs → 0 < length rs → AtomKept K K′ (one rs) → Steps p at d K (at + n) K′
-  class-steps v rs is ms some told =
-      atom (91 ∷ (v ++ 93 ∷ [])) (one rs) is (omega arith) refl
-      (λ fr ctx w. verdict-alive _ (state (inClass [] fresh) fr d ctx) 91 _ refl ∙ ap (verdict _) (append-assoc v (93 ∷ []) w) ∙ class-runs fr d ctx ms some w) told
-
   pub bar-steps : u ≡ 124 ∷ [] → BarKept K K′ → Steps p at d K (at + n) K′
   bar-steps is told = steps (omega (arith, ap length is)) (bar-leads p at d r K waits (at + n) K′ (begins (124 ∷ []) is) told)
 
@@ -114,6 +110,22 @@ module _ (p : List ℕ) (at d : ℕ) (r : Bool) (K : Mode → Frame → Type 0) 
   pub counted-stops : (f : Fault) → getD p at 0 ≡ 123 → r ≡ true → CountsStop p (at + 1) f → StepStops p at d K f
   counted-stops f is again stop = sign-stops p at d r K waits f (rw again (count-stops p at lt f is stop))
 
+  pub class-steps : (K′ : Mode → Frame → Type 0) (end : ℕ) (E : List Range → Type 0) → getD p at 0 ≡ 91 → ClassHeard p (at + 1) end E
+      → ((w : List ℕ) (rs : List Range) → Members w rs → 0 < length rs → E rs → AtomKept K K′ (one rs)) → Steps p at d K (end + 1) K′
+  class-steps K′ end E is heard told =
+      let read = heard .read in
+      let forward = read .forward in
+      let within = read .within in
+      let inner = take (end - (at + 1)) (drop (at + 1) p) in
+      let parts : drop (at + 1) p ≡ inner ++ 93 ∷ drop (end + 1) p = split-at p (at + 1) end forward ∙ ap (λ l. inner ++ l) (drop-is p end 93 within (read .bracket)) in
+      record {
+        forward = omega arith;
+        within = omega arith;
+        leads = atom-leads p at d r K waits (end + 1) K′ (one (read .members)) (subst NoRepeat (sym (drop-is p at 91 lt is)) refl)
+            (λ fr ctx. moves p at 91 _ (state (inClass [] fresh) fr d ctx) lt is refl ∙ ap (verdict _) parts ∙ class-runs fr d ctx (read .written) (read .some) (drop (end + 1) p))
+            (told inner (read .members) (read .written) (read .some) (heard .holds));
+      }
+
   pub group-steps : (K′ : Mode → Frame → Type 0) (w : List ℕ) (end : ℕ) (E : Regex → Type 0) → drop at p ≡ 40 ∷ w → GroupRead p at d end E → ((e : Regex) → E e → AtomKept K K′ e) → Steps p at d K end K′
   group-steps K′ w end E is read told = record {
     forward = read .forward;
@@ -142,11 +154,6 @@ module _ (p : List ℕ) (at d n : ℕ) (r : Bool) (K K′ : Mode → Frame → T
   pub any-of : (t : RefT (List ℕ)) → s ≡ Any t → AtomKept K K′ (one any) → Steps p at d K (at + n) K′
   any-of t is told = let f = formed (Any t) is in any-steps p at d n r K K′ waits (text s) (within (Any t) is refl) (handed .part) long (ap text is ∙ f) told
 
-  pub class-of : (t : RefT (List ℕ)) → s ≡ Class t → ((rs : List Range) → Members (t .now) rs → 0 < length rs → AtomKept K K′ (one rs)) → Steps p at d K (at + n) K′
-  class-of t is told =
-      let f = formed (Class t) is in
-      class-steps p at d n r K K′ waits (text s) (within (Class t) is refl) (handed .part) long (t .now) (f .0) (ap text is) (f .1) (f .2) (told (f .0) (f .1) (f .2))
-
   pub bar-of : (t : RefT (List ℕ)) → s ≡ Bar t → BarKept K K′ → Steps p at d K (at + n) K′
   bar-of t is told = let f = formed (Bar t) is in bar-steps p at d n r K K′ waits (text s) (within (Bar t) is refl) (handed .part) long (ap text is ∙ f) told
 
@@ -170,3 +177,14 @@ module _ (p : List ℕ) (at d : ℕ) (r : Bool) (K : Mode → Frame → Type 0) 
 
   pub counted-refused : (f : Fault) → CountsStop p (at + 1) f → StepStops p at d K f
   counted-refused f stop = let (lt, brace, again) = counted-here in counted-stops p at d r K waits lt f brace again stop
+
+module _ (p : List ℕ) (at d : ℕ) (r : Bool) (K : Mode → Frame → Type 0) (waits : (m : Mode) (fr : Frame) → K m fr → Waits r m) (s : Sign) (t : RefT (List ℕ)) (handed : Handed p at r s) (is : s ≡ Class t) where
+  class-here : (at < length p) × (getD p at 0 ≡ 91)
+  class-here = (inside p at (sym (ap isEnd is) ∙ handed .ended), head-is p at 91 _ (handed .part ∙ ap (λ l. l ++ drop (at + length (text s)) p) (ap text is)))
+
+  pub class-of : (K′ : Mode → Frame → Type 0) (end : ℕ) (E : List Range → Type 0) → ClassHeard p (at + 1) end E
+      → ((w : List ℕ) (rs : List Range) → Members w rs → 0 < length rs → E rs → AtomKept K K′ (one rs)) → Steps p at d K (end + 1) K′
+  class-of K′ end E heard told = let (lt, bracket) = class-here in class-steps p at d r K waits lt K′ end E bracket heard told
+
+  pub class-refused : (f : Fault) → ClassStops p (at + 1) f → StepStops p at d K f
+  class-refused f stop = let (lt, bracket) = class-here in sign-stops p at d r K waits f (class-stops p at lt r f bracket stop)

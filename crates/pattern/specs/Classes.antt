@@ -2,9 +2,12 @@
 --
 --   Follows old b t new   what the class reader answers to the byte b, and the state that it is left in
 --   ClassRead p at end    the inside of the class is p from `at` to `end`, where its bracket stands
+--   ClassHeard .. E       its members satisfy E
 --   ClassStops            the fault has the place where the automaton stops
 use mathlib.Core.Path.{_≡_}
-use mathlib.Core.List.{List, []}
+use mathlib.Core.Bool.{cond}
+use mathlib.Core.List.{List, [], _∷_}
+use lib.Dec.{eqb}
 use Prim.Native.Nat.{ℕ, _+_, _-_, _<_, _≤_}
 use lib.ListN.{length, getD, take, drop}
 use Rattle.fault.specs.declared.Fault.{Fault}
@@ -43,6 +46,15 @@ Leads Refused n new = n ≡ noClass
 abbrev pub Follows : Progress → ℕ → Taken → Progress → Type 0
 Follows old b t new = (rs : List Range) → Suits rs old → Leads t (classNext (classKind b) b rs (stateOf old)) new
 
+-- the members that are finished once the byte b has been taken
+abbrev pub doneBy : Progress → ℕ → List Range
+doneBy Empty b = []
+doneBy Between b = []
+doneBy (Member a) b = cond (eqb b 45) [] ((a, a) ∷ [])
+doneBy (Dash a) b = cond (eqb b 92) [] ((a, b) ∷ [])
+doneBy Escape b = []
+doneBy (DashEscape a) b = (a, b) ∷ []
+
 pub record ClassRead (p : List ℕ) (at end : ℕ) : Type 0 where
   pub forward : at ≤ end
   pub within : end < length p
@@ -50,6 +62,10 @@ pub record ClassRead (p : List ℕ) (at end : ℕ) : Type 0 where
   pub members : List Range
   pub some : 0 < length members
   pub written : Members (take (end - at) (drop at p)) members
+
+pub record ClassHeard (p : List ℕ) (at end : ℕ) (E : List Range → Type 0) : Type 0 where
+  pub read : ClassRead p at end
+  pub holds : E (read .members)
 
 abbrev pub ClassStops : List ℕ → ℕ → Fault → Type 0
 ClassStops p at f = (fr : Frame) (d : ℕ) (ctx : List Frame) → Stops p f (verdict (state (inClass [] fresh) fr d ctx) (drop at p))

@@ -1,10 +1,15 @@
 // The class, from after its bracket: its state and the next byte together decide.
 ghost use mathlib.Core.Path.{_≡_};
+ghost use mathlib.Core.List.{List, _++_};
 ghost use Prim.Native.Nat.{_≤_};
 ghost use lib.ListN.{length};
 ghost use Rattle.std.specs.Results.{Cases};
 ghost use Rattle.pattern.specs.Characters.{escapable, classKind, isItself};
-ghost use Rattle.pattern.specs.Classes.{Follows, ClassRead, ClassRefused};
+ghost use Rattle.pattern.specs.Expressions.{Range};
+ghost use Rattle.pattern.specs.Classes.{Follows, doneBy, ClassHeard, ClassRead, ClassRefused};
+use crate::gathering::Gathering;
+use crate::gathering::Ignoring;
+use crate::gathering::Unseen;
 use crate::refusal::badly_written;
 use fault::Fault;
 
@@ -54,6 +59,32 @@ impl Progress {
         Taken::Inside
     }
 
+    // The members that are finished once `byte` has been taken.
+    fn finished<T: Gathering>(self, found: &T, byte: u8) -> T
+        ensures value { λ r. ⌜ ((rs : List Range) → T·Gathering .holds (now (found .entry)) rs → T·Gathering .holds r (rs ++ doneBy self byte)) ⌝ }
+    {
+        match self {
+            Progress::Empty => *found,
+            Progress::Between => *found,
+            Progress::Escape => *found,
+            Progress::Member(first) => {
+                if byte == b'-' {
+                    *found
+                } else {
+                    found.with(first, first)
+                }
+            }
+            Progress::Dash(first) => {
+                if byte == b'\\' {
+                    *found
+                } else {
+                    found.with(first, byte)
+                }
+            }
+            Progress::DashEscape(first) => found.with(first, byte),
+        }
+    }
+
     fn take(&mut self, byte: u8) -> Taken
         ensures cases { λ r. ⌜ Follows (now (self .entry)) byte r (now (self .exit)) ⌝ }
     {
@@ -85,18 +116,29 @@ impl Progress {
     }
 }
 
+// Where the bracket stands that ends the class, and its members.
+pub(crate) fn gather<T: Gathering>(p: &[u8], at: usize) -> Result<(usize, T), Fault>
+    requires within { ⌜ at ≤ length (now p) ⌝ }
+    ensures cases { λ r. ⌜ Cases r (λ o. ClassHeard (now (p .entry)) at (o .0) (T·Gathering .holds (o .1))) (λ f. ClassRefused (now (p .entry)) at f) ⌝ }
+{
+    let mut progress = Progress::Empty;
+    let mut found = T::none();
+    for i in at..p.len() {
+        found = progress.finished(&found, p[i]);
+        match progress.take(p[i]) {
+            Taken::Inside => {}
+            Taken::Ended => return Ok((i, found)),
+            Taken::Refused => return Err(badly_written(i)),
+        }
+    }
+    Err(badly_written(p.len()))
+}
+
 // Where the bracket stands that ends the class.
 pub fn end(p: &[u8], at: usize) -> Result<usize, Fault>
     requires within { ⌜ at ≤ length (now p) ⌝ }
     ensures cases { λ r. ⌜ Cases r (λ end. ClassRead (now (p .entry)) at end) (λ f. ClassRefused (now (p .entry)) at f) ⌝ }
 {
-    let mut progress = Progress::Empty;
-    for i in at..p.len() {
-        match progress.take(p[i]) {
-            Taken::Inside => {}
-            Taken::Ended => return Ok(i),
-            Taken::Refused => return Err(badly_written(i)),
-        }
-    }
-    Err(badly_written(p.len()))
+    let (end, _) = gather::<Unseen>(p, at)?;
+    Ok(end)
 }

@@ -4,6 +4,8 @@ ghost use mathlib.Core.Path.{_≡_};
 ghost use Prim.Native.Nat.{min};
 ghost use Rattle.pattern.specs.Places.{places as places-of};
 use crate::assembly::Assembly;
+use crate::gathering::Ignoring;
+use crate::gathering::Unseen;
 use std::cmp;
 
 #[derive(Clone, Copy)]
@@ -20,6 +22,8 @@ fn cap(count: u16) -> Count
 }
 
 pub impl Assembly for Count as Counting {
+    type Letters = Unseen;
+
     ghost stands = { λ c e. c .places ≡ min (places-of e) 64 };
 
     fn nothing() -> Count {
@@ -34,7 +38,7 @@ pub impl Assembly for Count as Counting {
         cap(1)
     }
 
-    fn class(inside: &[u8]) -> Count {
+    fn class(letters: &Unseen) -> Count {
         cap(1)
     }
 

@@ -5,6 +5,7 @@ mod copy;
 mod count;
 mod draft;
 pub mod examples;
+pub mod gathering;
 mod reader;
 pub mod record;
 mod refusal;

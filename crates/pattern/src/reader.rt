@@ -8,6 +8,7 @@ ghost use Rattle.std.specs.Results.{Cases};
 ghost use Rattle.pattern.specs.Drafts.{Keeps};
 ghost use Rattle.pattern.specs.Walks.{Halts, Steps, StepStops, GroupRead, GroupStops, AlternativesRead, AlternativesStop};
 use crate::assembly::Assembly;
+use crate::class;
 use crate::draft::Draft;
 use crate::refusal::badly_written;
 use crate::repeat;
@@ -51,7 +52,10 @@ fn step<T: Assembly>(
         Sign::Plain(t) => Ok(Some((end, draft.atom(&T::byte(t[0]))))),
         Sign::Escape(t) => Ok(Some((end, draft.atom(&T::byte(t[1]))))),
         Sign::Any(_) => Ok(Some((end, draft.atom(&T::any())))),
-        Sign::Class(inside) => Ok(Some((end, draft.atom(&T::class(inside))))),
+        Sign::Class(_) => {
+            let (close, letters) = class::gather(p, at + 1)?;
+            Ok(Some((close + 1, draft.atom(&T::class(&letters)))))
+        }
         Sign::Star(_) => Ok(Some((end, draft.repeated(&draft.last.star())))),
         Sign::Plus(_) => Ok(Some((end, draft.repeated(&draft.last.plus())))),
         Sign::Question(_) => Ok(Some((end, draft.repeated(&draft.last.optional())))),

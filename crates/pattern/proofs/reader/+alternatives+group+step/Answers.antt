@@ -9,7 +9,7 @@ use Rattle.pattern.proofs.Drafting.{keeps-waits}
 use Rattle.pattern.proofs.Slices.{head-is}
 use Rattle.pattern.proofs.Groups.{too-deep, inner-stops, unfinished, group-read}
 use Rattle.pattern.proofs.Walking.{sign-stops, group-stops, walk-stops, walk-all}
-use Rattle.pattern.proofs.SignSteps.{sign-within, begun, plain-of, escape-of, any-of, class-of, bar-of, star-of, opt-of, plus-of, counted-of, counted-refused, group-steps}
+use Rattle.pattern.proofs.SignSteps.{sign-within, begun, plain-of, escape-of, any-of, class-of, class-refused, bar-of, star-of, opt-of, plus-of, counted-of, counted-refused, group-steps}
 use Rattle.pattern.proofs.reader.+alternatives+group+step.Needs as need
 
 pub alternatives-loop-next-holds : need.alternatives-loop-next-holds
@@ -58,7 +58,7 @@ step-returns-in-Break-sign g t c =
 pub step-group-requires : need.step-group-requires
 step-group-requires g t c κs =
     let (lt, is) = begun _ _ _ _ _ 40 (c .in-Continue-sign .ensures tt .cases) (c .in-Open .is) refl (λ f. f) in
-    λ within. (omega arith, (within, (lt, head-is (c .args .p .now) (c .args .at) 40 _ is)))
+    λ within. (omega arith, (within .0, (within .1, (lt, head-is (c .args .p .now) (c .args .at) 40 _ is))))
 
 pub step-returns-in-Break-end : need.step-returns-in-Break-end
 step-returns-in-Break-end g t c =
@@ -96,8 +96,17 @@ step-returns-in-Escape g t c = record { cases = escape-of _ _ _ _ _ _ _ (keeps-w
 pub step-returns-in-Any : need.step-returns-in-Any
 step-returns-in-Any g t c = record { cases = any-of _ _ _ _ _ _ _ (keeps-waits (g .T·Assembly .stands) (c .args .draft .now)) _ (c .in-Continue-sign .ensures tt .cases) (c .len .ensures .value) _ (c .in-Any .is) (c .atom-in-Any .ensures .value _ (c .any .ensures .value)) }
 
-pub step-returns-in-Class : need.step-returns-in-Class
-step-returns-in-Class g t c = record { cases = class-of _ _ _ _ _ _ _ (keeps-waits (g .T·Assembly .stands) (c .args .draft .now)) _ (c .in-Continue-sign .ensures tt .cases) (c .len .ensures .value) _ (c .in-Class .is) (λ rs ms some. c .atom-in-Class .ensures .value _ (c .class .ensures .value rs ms some)) }
+pub step-returns-in-Break-close : need.step-returns-in-Break-close
+step-returns-in-Break-close g t c =
+    let p = err-from-errBy (c .from-residual-in-Break-close .result) (c .from-residual-in-Break-close .ensures .1) in
+    record { cases = rw (p .1, p .2) (class-refused _ _ _ _ _ (keeps-waits (g .T·Assembly .stands) (c .args .draft .now)) _ _ (c .in-Continue-sign .ensures tt .cases) (c .in-Class .is) _ (c .in-Break-close .ensures tt .cases .stops)) }
+
+pub step-returns-in-Continue-close : need.step-returns-in-Continue-close
+step-returns-in-Continue-close g t c =
+    record {
+      cases = class-of _ _ _ _ _ (keeps-waits (g .T·Assembly .stands) (c .args .draft .now)) _ _ (c .in-Continue-sign .ensures tt .cases) (c .in-Class .is) _ _ _ (c .in-Continue-close .ensures tt .cases)
+          (λ w rs ms some held. c .atom-in-Class .ensures .value _ (c .class .ensures .value w rs ms some held));
+    }
 
 pub step-returns-in-Star : need.step-returns-in-Star
 step-returns-in-Star g t c = record { cases = star-of _ _ _ _ _ _ _ (keeps-waits (g .T·Assembly .stands) (c .args .draft .now)) _ (c .in-Continue-sign .ensures tt .cases) (c .len .ensures .value) _ (c .in-Star .is) (c .repeated .ensures .value _ (c .star .ensures .value)) }
