@@ -18,8 +18,8 @@ pub struct PlaceMachine {
 }
 
 impl PlaceMachine {
-    // The one call here that asks something: the tables are those of some expression.
-    pub fn new(tables: Tables) -> PlaceMachine
+    // The tables are those of some expression.
+    pub(crate) fn new(tables: Tables) -> PlaceMachine
         requires made { ⌜ Made tables ⌝ }
         ensures tables { λ r. ⌜ r .tables ≡ tables ⌝ }
         ensures means { λ r. ⌜ MeansExactly (r .tables) ⌝ }
