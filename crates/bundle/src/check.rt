@@ -15,7 +15,7 @@ use fault::FaultDisplay;
 use folding::fold::Folding;
 use folding::tally::TallyFolding;
 use folding::tally::Tallying;
-use machines::build::build;
+use machines::assembling::build;
 use machines::place::PlaceFolding;
 use machines::place::PlaceJudging;
 use pattern::record::Pattern;

@@ -4,7 +4,7 @@ use crate::spans;
 use fault::Fault;
 use folding::fold::Folding;
 use folding::tally::Tally;
-use machines::build::build;
+use machines::assembling::build;
 use machines::place::PlaceFolding;
 use machines::place::PlaceJudging;
 use machines::place::PlaceMachine;
