@@ -1,23 +1,16 @@
 // The machine of an expression from its parts, one call to each kind of expression. Parts are
 // values, so that repeats within repeats cost a few joins each and not their product.
-ghost use mathlib.Core.Path.{_≡_};
-ghost use Prim.Native.Nat.{_≤_, min};
-ghost use Rattle.std.specs.Options.{Cases};
 ghost use Rattle.pattern.specs.Expressions.{Regex, Symbol, one, seq, alt, star as star-of, opt, empty as nothing};
-ghost use Rattle.pattern.specs.Places.{places};
-ghost use Rattle.machines.specs.Laws.{Judges};
 ghost use Rattle.machines.specs.Letters.{LettersOf};
-ghost use Rattle.machines.specs.PlaceTables.{TablesOf};
 ghost use Rattle.machines.specs.Soundness.{TakesSome};
 ghost use Rattle.machines.specs.Standing.{StandsFor};
 use crate::fragment::Fragment;
 use crate::letters::Letters;
-use crate::place::PlaceMachine;
 use crate::tables::Tables;
 
 impl Fragment {
     // The empty text.
-    pub fn empty() -> Fragment
+    pub(crate) fn empty() -> Fragment
         ensures value { λ r. ⌜ StandsFor nothing r ⌝ }
     {
         Fragment {
@@ -27,7 +20,7 @@ impl Fragment {
     }
 
     // One place.
-    pub fn place(letters: &Letters) -> Fragment
+    pub(crate) fn place(letters: &Letters) -> Fragment
         ensures value { λ r. ⌜ ((s : Symbol) → TakesSome s → LettersOf s (now (letters .entry) .takes) → StandsFor (one s) r) ⌝ }
     {
         Fragment {
@@ -36,25 +29,8 @@ impl Fragment {
         }
     }
 
-    // How many places the part has, counted up to 64.
-    pub fn places(&self) -> u8
-        ensures value { λ r. ⌜ ((e : Regex) → StandsFor e (now (self .entry)) → r ≡ min (places e) 64) ⌝ }
-    {
-        self.count
-    }
-
-    // The machine of the whole, if it has at most 63 places.
-    pub fn machine(&self) -> Option<PlaceMachine>
-        ensures value { λ r. ⌜ ((e : Regex) → StandsFor e (now (self .entry)) → Cases r (64 ≤ places e) (λ m. TablesOf e (m .tables) × Judges e (m .tables))) ⌝ }
-    {
-        if self.count > 63 {
-            return None;
-        }
-        Some(PlaceMachine::new(self.tables))
-    }
-
     // This and then `second`.
-    pub fn then(&self, second: &Fragment) -> Fragment
+    pub(crate) fn then(&self, second: &Fragment) -> Fragment
         ensures value { λ r. ⌜ ((e f : Regex) → StandsFor e (now (self .entry)) → StandsFor f (now (second .entry)) → StandsFor (seq e f) r) ⌝ }
     {
         let count = self.count + second.count;
@@ -71,7 +47,7 @@ impl Fragment {
     }
 
     // This or `other`.
-    pub fn either(&self, other: &Fragment) -> Fragment
+    pub(crate) fn either(&self, other: &Fragment) -> Fragment
         ensures value { λ r. ⌜ ((e f : Regex) → StandsFor e (now (self .entry)) → StandsFor f (now (other .entry)) → StandsFor (alt e f) r) ⌝ }
     {
         let count = self.count + other.count;
@@ -88,7 +64,7 @@ impl Fragment {
     }
 
     // This any number of times.
-    pub fn star(&self) -> Fragment
+    pub(crate) fn star(&self) -> Fragment
         ensures value { λ r. ⌜ ((e : Regex) → StandsFor e (now (self .entry)) → StandsFor (star-of e) r) ⌝ }
     {
         Fragment {
@@ -98,7 +74,7 @@ impl Fragment {
     }
 
     // This or nothing.
-    pub fn optional(&self) -> Fragment
+    pub(crate) fn optional(&self) -> Fragment
         ensures value { λ r. ⌜ ((e : Regex) → StandsFor e (now (self .entry)) → StandsFor (opt e) r) ⌝ }
     {
         Fragment {

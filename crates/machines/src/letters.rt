@@ -28,7 +28,7 @@ pub struct Letters {
 }
 
 impl Letters {
-    pub fn byte(byte: u8) -> Letters
+    pub(crate) fn byte(byte: u8) -> Letters
         ensures value { λ r. ⌜ LettersOf (byte-of byte) (r .takes) ⌝ }
     {
         Letters {
@@ -37,7 +37,7 @@ impl Letters {
     }
 
     // The bytes from `low` to `high` as well.
-    pub fn with(&self, low: u8, high: u8) -> Letters
+    pub(crate) fn with(&self, low: u8, high: u8) -> Letters
         ensures value { λ r. ⌜ ((s s′ : Symbol) → Widens s low high s′ → LettersOf s (now (self .entry) .takes) → LettersOf s′ (r .takes)) ⌝ }
     {
         Letters {

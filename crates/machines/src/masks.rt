@@ -7,7 +7,7 @@ ghost use Rattle.std.specs.Orderings.{Decides};
 ghost use Rattle.machines.specs.Masks.{Has, After, gathered, Gathered};
 
 // The union of the rows of the members of `set`, one turn to a member.
-pub fn gather(rows: &[u64; 64], set: u64) -> u64
+pub(crate) fn gather(rows: &[u64; 64], set: u64) -> u64
     ensures value { λ r. ⌜ r ≡ gathered (now (rows .entry)) set ⌝ }
     ensures members { λ r. ⌜ Gathered (now (rows .entry)) set r ⌝ }
 {

@@ -6,14 +6,14 @@ use crate::fragment::Fragment;
 
 impl Fragment {
     // This at least once.
-    pub fn plus(&self) -> Fragment
+    pub(crate) fn plus(&self) -> Fragment
         ensures value { λ r. ⌜ ((e : Regex) → StandsFor e (now (self .entry)) → StandsFor (plus-of e) r) ⌝ }
     {
         self.then(&self.star())
     }
 
     // This at least `least` and at most `most` times.
-    pub fn counted(&self, least: u8, most: u8) -> Fragment
+    pub(crate) fn counted(&self, least: u8, most: u8) -> Fragment
         ensures value { λ r. ⌜ ((e : Regex) → least ≤ most → StandsFor e (now (self .entry)) → StandsFor (counted-of least most e) r) ⌝ }
     {
         let spare = self.optional();

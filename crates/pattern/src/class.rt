@@ -31,7 +31,7 @@ pub enum Taken {
     Refused,
 }
 
-pub fn is_escapable(byte: u8) -> bool
+pub(crate) fn is_escapable(byte: u8) -> bool
     ensures value { λ r. ⌜ r ≡ escapable byte ⌝ }
 {
     match byte as char {
@@ -135,7 +135,7 @@ pub(crate) fn gather<T: Gathering>(p: &[u8], at: usize) -> Result<(usize, T), Fa
 }
 
 // Where the bracket stands that ends the class.
-pub fn end(p: &[u8], at: usize) -> Result<usize, Fault>
+pub(crate) fn end(p: &[u8], at: usize) -> Result<usize, Fault>
     requires within { ⌜ at ≤ length (now p) ⌝ }
     ensures cases { λ r. ⌜ Cases r (λ end. ClassRead (now (p .entry)) at end) (λ f. ClassRefused (now (p .entry)) at f) ⌝ }
 {

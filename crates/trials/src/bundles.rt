@@ -14,16 +14,28 @@ fn the_examples(rt: LibcRuntime) -> Result<(), Fail> {
     prints(&rt, worked, "verdict no\nbytes 4\nlines 0\nlost at 1")?;
     let three = b"\x00\x03\x00\x02\x01\x00\x01\x00\x04\x00\x04\x00\x04.*tow\none\ntwo\n";
     prints(&rt, three, "verdict yes\nbytes 8\nlines 2\nlost at none")?;
-    prints(&rt, b"\x00\x00\x00\x00", "verdict yes\nbytes 0\nlines 0\nlost at none")
+    prints(
+        &rt,
+        b"\x00\x00\x00\x00",
+        "verdict yes\nbytes 0\nlines 0\nlost at none",
+    )
 }
 
 #[test]
 fn inputs_of_a_wrong_size(rt: LibcRuntime) -> Result<(), Fail> {
     prints(&rt, b"", "refused 11 layer bundle place 0")?;
     prints(&rt, b"\x00\x00\x00", "refused 11 layer bundle place 3")?;
-    prints(&rt, b"\x00\x01\x00\x00\x05\x00\x02", "refused 11 layer bundle place 7")?;
+    prints(
+        &rt,
+        b"\x00\x01\x00\x00\x05\x00\x02",
+        "refused 11 layer bundle place 7",
+    )?;
     prints(&rt, b"\xff\xff\xff\xff", "refused 11 layer bundle place 4")?;
-    prints(&rt, b"\x00\x00\x00\x00\x00", "refused 11 layer bundle place 5")
+    prints(
+        &rt,
+        b"\x00\x00\x00\x00\x00",
+        "refused 11 layer bundle place 5",
+    )
 }
 
 // One strip as long as the input has room for: 4 + 3 + 32,761.
@@ -33,7 +45,11 @@ fn inputs_at_the_limit(rt: LibcRuntime) -> Result<(), Fail> {
     for (i, b) in b"\x00\x01\x00\x02\x00\x7f\xf7.*".iter().enumerate() {
         input[i] = *b;
     }
-    prints(&rt, &input[0..32768], "verdict yes\nbytes 32759\nlines 32759\nlost at none")?;
+    prints(
+        &rt,
+        &input[0..32768],
+        "verdict yes\nbytes 32759\nlines 32759\nlost at none",
+    )?;
     prints(&rt, &input[0..32769], "refused 11 layer bundle place 32769")?;
     prints(&rt, &input, "refused 11 layer bundle place 32769")
 }
