@@ -38,13 +38,19 @@ fn inputs_of_a_wrong_size(rt: LibcRuntime) -> Result<(), Fail> {
     )
 }
 
-// One strip as long as the input has room for: 4 + 3 + 32,761.
+// The pattern `.*` and one strip as long as the input has room for: 4 + 3 + 2 + 32,759.
 #[test]
 fn inputs_at_the_limit(rt: LibcRuntime) -> Result<(), Fail> {
     let mut input = [10; 32770];
-    for (i, b) in b"\x00\x01\x00\x02\x00\x7f\xf7.*".iter().enumerate() {
-        input[i] = *b;
-    }
+    input[0] = 0;
+    input[1] = 1;
+    input[2] = 0;
+    input[3] = 2;
+    input[4] = 0;
+    input[5] = 0x7f;
+    input[6] = 0xf7;
+    input[7] = b'.';
+    input[8] = b'*';
     prints(
         &rt,
         &input[0..32768],
