@@ -3,7 +3,7 @@ ghost use lib.ListN.{take};
 ghost use Rattle.pattern.specs.Expressions.{Regex};
 ghost use Rattle.pattern.specs.Grammar.{Written, deepest};
 ghost use Rattle.machines.specs.Fragments.{Represents};
-ghost use Rattle.machines.specs.Laws.{MeansExactly};
+ghost use Rattle.machines.specs.Laws.{SpelledExactly, EachPlaceLives, MeansExactly, ReachesExactly, JoinsExactly, Neutral};
 ghost use Rattle.machines.specs.PlaceTables.{TablesOf};
 ghost use Rattle.machines.specs.Soundness.{Sane};
 use crate::fragment::Fragment;
@@ -67,6 +67,11 @@ pub impl Assembly for Fragment as Assembling {
 pub fn build(pattern: &Pattern) -> PlaceMachine
     ensures tables { λ r. ⌜ ((e : Regex) → Written deepest (take (now (pattern .entry) .len) (now (pattern .entry) .bytes)) e → Sane e × TablesOf e (r .tables)) ⌝ }
     ensures means { λ r. ⌜ MeansExactly (r .tables) ⌝ }
+    ensures reaches { λ r. ⌜ ReachesExactly (r .tables) ⌝ }
+    ensures joins { λ r. ⌜ JoinsExactly (r .tables) ⌝ }
+    ensures neutral { λ r. ⌜ Neutral (r .tables) ⌝ }
+    ensures spelled { λ _. ⌜ SpelledExactly ⌝ }
+    ensures places { λ _. ⌜ EachPlaceLives ⌝ }
 {
     let whole = pattern.assemble::<Fragment>();
     PlaceMachine::new(whole.tables)

@@ -5,4 +5,14 @@ pub new-requires : need.new-requires
 new-requires c κs = record { made = whole-made _ _ _ (c .args .pattern .now .readable) (c .assemble-whole .ensures .value) }
 
 pub returns : need.returns
-returns c = record { tables = whole-tables _ _ _ (c .args .pattern .now .readable) (c .assemble-whole .ensures .value) _ (c .new .ensures .tables); means = c .new .ensures .means }
+returns c =
+    let machine = c .new .ensures in
+    record {
+      tables = whole-tables _ _ _ (c .args .pattern .now .readable) (c .assemble-whole .ensures .value) _ (machine .tables);
+      means = machine .means;
+      reaches = machine .reaches;
+      joins = machine .joins;
+      neutral = machine .neutral;
+      spelled = machine .spelled;
+      places = machine .places;
+    }
