@@ -8,10 +8,6 @@ pub(crate) struct Spans {
     rows: [u64; 64],
 }
 
-fn nowhere() -> Spans {
-    Spans { rows: [0; 64] }
-}
-
 // The empty text, at each place.
 fn everywhere() -> Spans {
     let mut rows = [0; 64];

@@ -1,6 +1,5 @@
--- The calls of a roll and their answers as data, and what the plain roll answers and keeps. Assumes nothing.
+-- The answers of a roll as data, and what the plain roll answers and keeps. Assumes nothing.
 --
---   Call            a call by its arguments: a filed strip is its text
 --   Answer          what a call answers; `done` where it answers no value
 --   after p c       the plain roll after a granted call
 --   Gives M p c a   a is what the plain roll answers to a granted call, where M is the machine's set

@@ -1,5 +1,6 @@
--- When a call of a roll is refused and with which fault, by which slots are held and by the lengths of the lent tables. Assumes nothing.
+-- The calls of a roll as data, and when one is refused and with which fault, by which slots are held and by the lengths of the lent tables. Assumes nothing.
 --
+--   Call          a call by its arguments: a filed strip is its text
 --   first f g     f, or else g: the order in which the refusals are tried
 --   tables n l t  refusal 4: not 2n legs, at place 0, or not 2n tallies, at place 1
 --   room n s l t  the same, and then refusal 9: no slot s among n
