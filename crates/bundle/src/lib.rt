@@ -1,4 +1,6 @@
 // Bundles: a pattern and the numbered strips of a text in one run of bytes; docs/bundles.md has the layout.
+#![tactic(auto)]
+
 mod bytes;
 pub mod check;
 pub mod decode;

@@ -1,4 +1,6 @@
 // What a refused call answers: which refusal it is, the layer it comes from, and a place.
+#![tactic(auto)]
+
 ghost use Rattle.std.specs.Prelude.{◌≡◌, Some};
 ghost use Rattle.fault.specs.Numbers.{number};
 ghost use Rattle.fault.specs.Lines.{word, line};

@@ -1,5 +1,7 @@
 // Runs the place machine and another matcher side by side: a line of input is a pattern, a tab and a
 // text, and each is answered with what both say, the machine for every way of cutting the text.
+#![tactic(auto)]
+
 use anyhow::anyhow;
 use std::io::{BufRead, BufReader};
 

@@ -1,4 +1,6 @@
 // The machines that are built from a pattern.
+#![tactic(auto)]
+
 pub mod assembling;
 pub mod build;
 mod combine;

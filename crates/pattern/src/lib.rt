@@ -1,4 +1,6 @@
 // Patterns: how they are written, read and refused, and what they mean.
+#![tactic(auto)]
+
 pub mod assembly;
 mod class;
 mod copy;

@@ -1,4 +1,6 @@
 // Reads a pattern from each line of the input and prints how it is read or refused.
+#![tactic(auto)]
+
 use pattern::record::Pattern;
 use std::io;
 

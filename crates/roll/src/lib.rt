@@ -1,4 +1,6 @@
 // Rolls: one long text in strips, kept by the strips' legs and tallies, over any judging machine.
+#![tactic(auto)]
+
 pub mod calls;
 pub mod feeding;
 pub mod roll;

@@ -1,4 +1,6 @@
 // Checks one bundle from standard input, and prints what it comes to.
+#![tactic(auto)]
+
 use bundle::check::answer;
 use bundle::enough::enough;
 use std::io::Read;

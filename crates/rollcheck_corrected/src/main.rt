@@ -1,4 +1,6 @@
 // `rollcheck` on another bundle, since a program crate has one standard input.
+#![tactic(auto)]
+
 use bundle::check::answer;
 use std::io::Read;
 

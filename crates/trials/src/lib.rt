@@ -1,4 +1,6 @@
 // Trials of the library: small judging machines, and tests.
+#![tactic(auto)]
+
 #[cfg(test)]
 mod bundles;
 mod filing;
