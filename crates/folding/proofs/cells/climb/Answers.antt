@@ -2,8 +2,8 @@ use Rattle.std.proofs.Common.{◌≡◌, ◌+◌, ◌*◌, ◌<◌, length, arit
 use Rattle.folding.proofs.Climbing.{rising_none, rising_more, risen}
 use Rattle.folding.proofs.cells.climb.Goals as goal
 
-pub offset-bounds-cells-i-in-loop-i-2 : goal.offset-bounds-cells-i-in-loop-i-2
-offset-bounds-cells-i-in-loop-i-2 g c =
+pub offset_bounds-cells-i-in-loop-i-2 : goal.offset_bounds-cells-i-in-loop-i-2
+offset_bounds-cells-i-in-loop-i-2 g c =
     let low = c.loop-i.invariant.low in
     let in' : c.loop-i.i < length c.args.cells.now = omega arith in
     search rules

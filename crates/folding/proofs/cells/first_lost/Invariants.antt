@@ -9,4 +9,4 @@ abbrev pub invariant-loop-s : goal.invariant-loop-s
 invariant-loop-s g l =
     let leg = g.M.Folding.leg l.machine in
     (slots : List (List ℕ)) → AllBytes slots → l.cells ≡ cells leg slots
-    → (l.so-far ≡ leg (together (take l.s slots))) × ((t : ℕ) → t < l.s → Hopeful (g.M.Judging.means l.machine) (upto slots t))
+    → (l.so_far ≡ leg (together (take l.s slots))) × ((t : ℕ) → t < l.s → Hopeful (g.M.Judging.means l.machine) (upto slots t))

@@ -15,102 +15,102 @@ alternatives-loop-next-init g t c = (omega arith, c.requires.within, record { mo
 
 pub alternatives-returns-in-err-next : goal.alternatives-returns-in-err-next
 alternatives-returns-in-err-next g t c =
-    let p = err_from_is_err_and c.from-residual.result c.from-residual.ensures.1 in
-    record { cases = rw (p.1, p.2) (walk_stops _ _ _ _ _ _ c.loop-next.invariant.2 c.in-err-next.ensures.cases) }
+    let p = err_from_is_err_and c.from_residual.result c.from_residual.ensures.1 in
+    record { cases = rw (p.1, p.2) (walk_stops _ _ _ _ _ _ c.loop-next.invariant.2 c.in_err-next.ensures.cases) }
 
 pub alternatives-returns : goal.alternatives-returns
 alternatives-returns g t c =
     let (forward, within, walk) = c.loop-next.invariant in
-    record { cases = walk_all _ _ _ _ _ _ (keeps_waits g.T.Assembly.stands c.loop-next.draft) _ forward within walk (MatchOption-at_none _ _ c.in-default.is c.in-ok-next.ensures.cases) c.closed.ensures.value }
+    record { cases = walk_all _ _ _ _ _ _ (keeps_waits g.T.Assembly.stands c.loop-next.draft) _ forward within walk (MatchOption-at_none _ _ c.in_default.is c.in_ok-next.ensures.cases) c.closed.ensures.value }
 
 pub group-returns-then-depth-eq0 : goal.group-returns-then-depth-eq0
-group-returns-then-depth-eq0 g t c = record { cases = too_deep _ _ c.requires.paren.0 c.requires.paren.1 _ _ c.if-depth-eq0.true c.badly-written.ensures.value }
+group-returns-then-depth-eq0 g t c = record { cases = too_deep _ _ c.requires.paren.0 c.requires.paren.1 _ _ c.if-depth-eq0.true c.badly_written.ensures.value }
 
 pub group-returns-in-err-end : goal.group-returns-in-err-end
 group-returns-in-err-end g t c =
-    let p = err_from_is_err_and c.from-residual.result c.from-residual.ensures.1 in
+    let p = err_from_is_err_and c.from_residual.result c.from_residual.ensures.1 in
     let deep : c.args.depth ≡ suc (c.args.depth - 1) = omega arith in
-    record { cases = rw (p.1, p.2) (inner_stops _ _ c.requires.paren.0 c.requires.paren.1 _ _ _ deep c.in-err-end.ensures.cases) }
+    record { cases = rw (p.1, p.2) (inner_stops _ _ c.requires.paren.0 c.requires.paren.1 _ _ _ deep c.in_err-end.ensures.cases) }
 
 pub group-returns-then-end-p : goal.group-returns-then-end-p
 group-returns-then-end-p g t c =
     let deep : c.args.depth ≡ suc (c.args.depth - 1) = omega arith in
-    record { cases = unfinished _ _ c.requires.paren.0 c.requires.paren.1 _ _ _ _ _ deep c.in-ok-end.ensures.cases c.if-end-p.true c.badly-written-then-end-p.ensures.value }
+    record { cases = unfinished _ _ c.requires.paren.0 c.requires.paren.1 _ _ _ _ _ deep c.in_ok-end.ensures.cases c.if-end-p.true c.badly_written-then-end-p.ensures.value }
 
 pub group-returns : goal.group-returns
 group-returns g t c =
     let deep : c.args.depth ≡ suc (c.args.depth - 1) = omega arith in
-    record { cases = group_read _ _ c.requires.paren.0 c.requires.paren.1 _ _ _ _ deep c.in-ok-end.ensures.cases c.if-end-p.false }
+    record { cases = group_read _ _ c.requires.paren.0 c.requires.paren.1 _ _ _ _ deep c.in_ok-end.ensures.cases c.if-end-p.false }
 
 pub step-len-requires : goal.step-len-requires
-step-len-requires g t c = record { fits = omega (arith, sign_within _ _ _ _ c.requires.within c.in-ok-sign.ensures.cases) }
+step-len-requires g t c = record { fits = omega (arith, sign_within _ _ _ _ c.requires.within c.in_ok-sign.ensures.cases) }
 
 pub step-overflow-add-end : goal.step-overflow-add-end
-step-overflow-add-end g t c = record { fits = omega (arith, sign_within _ _ _ _ c.requires.within c.in-ok-sign.ensures.cases, c.len.ensures.value) }
+step-overflow-add-end g t c = record { fits = omega (arith, sign_within _ _ _ _ c.requires.within c.in_ok-sign.ensures.cases, c.len.ensures.value) }
 
 pub step-returns-in-err-sign : goal.step-returns-in-err-sign
 step-returns-in-err-sign g t c =
-    let p = err_from_is_err_and c.from-residual.result c.from-residual.ensures.1 in
-    record { cases = rw (p.1, p.2) (sign_stops _ _ _ _ _ (keeps_waits g.T.Assembly.stands c.args.draft.now) _ c.in-err-sign.ensures.cases.stops) }
+    let p = err_from_is_err_and c.from_residual.result c.from_residual.ensures.1 in
+    record { cases = rw (p.1, p.2) (sign_stops _ _ _ _ _ (keeps_waits g.T.Assembly.stands c.args.draft.now) _ c.in_err-sign.ensures.cases.stops) }
 
 pub step-group-requires : goal.step-group-requires
 step-group-requires g t c κs =
-    let (lt, is) = begun _ _ _ _ _ 40 c.in-ok-sign.ensures.cases c.in-Open.is refl (λ f. f) in
+    let (lt, is) = begun _ _ _ _ _ 40 c.in_ok-sign.ensures.cases c.in-Open.is refl (λ f. f) in
     λ within. (omega arith, (within.0, (within.1, (lt, head_is c.args.p.now c.args.at 40 _ is))))
 
 pub step-returns-in-err-end : goal.step-returns-in-err-end
 step-returns-in-err-end g t c =
     let p = err_from_is_err_and c.from-residual-in-err-end.result c.from-residual-in-err-end.ensures.1 in
-    let (lt, is) = begun _ _ _ _ _ 40 c.in-ok-sign.ensures.cases c.in-Open.is refl (λ f. f) in
-    record { cases = rw (p.1, p.2) (group_stops _ _ _ _ _ (keeps_waits g.T.Assembly.stands c.args.draft.now) _ _ is c.in-err-end.ensures.cases) }
+    let (lt, is) = begun _ _ _ _ _ 40 c.in_ok-sign.ensures.cases c.in-Open.is refl (λ f. f) in
+    record { cases = rw (p.1, p.2) (group_stops _ _ _ _ _ (keeps_waits g.T.Assembly.stands c.args.draft.now) _ _ is c.in_err-end.ensures.cases) }
 
 pub step-returns-in-ok-end : goal.step-returns-in-ok-end
 step-returns-in-ok-end g t c =
-    let (lt, is) = begun _ _ _ _ _ 40 c.in-ok-sign.ensures.cases c.in-Open.is refl (λ f. f) in
-    record { cases = group_steps _ _ _ _ _ (keeps_waits g.T.Assembly.stands c.args.draft.now) lt _ _ _ _ is c.in-ok-end.ensures.cases c.atom.ensures.value }
+    let (lt, is) = begun _ _ _ _ _ 40 c.in_ok-sign.ensures.cases c.in-Open.is refl (λ f. f) in
+    record { cases = group_steps _ _ _ _ _ (keeps_waits g.T.Assembly.stands c.args.draft.now) lt _ _ _ _ is c.in_ok-end.ensures.cases c.atom.ensures.value }
 
 pub step-returns-in-Close : goal.step-returns-in-Close
 step-returns-in-Close g t c =
-    let (lt, is) = begun _ _ _ _ _ 41 c.in-ok-sign.ensures.cases c.in-Close.is refl (λ f. f) in
+    let (lt, is) = begun _ _ _ _ _ 41 c.in_ok-sign.ensures.cases c.in-Close.is refl (λ f. f) in
     record { cases = λ _. head_is c.args.p.now c.args.at 41 _ is }
 
 pub step-returns-in-err-least : goal.step-returns-in-err-least
 step-returns-in-err-least g t c =
     let p = err_from_is_err_and c.from-residual-in-err-least.result c.from-residual-in-err-least.ensures.1 in
-    record { cases = rw (p.1, p.2) (counted_refused _ _ _ _ _ (keeps_waits g.T.Assembly.stands c.args.draft.now) _ _ c.in-ok-sign.ensures.cases c.in-Counted.is _ c.in-err-least.ensures.cases.stops) }
+    record { cases = rw (p.1, p.2) (counted_refused _ _ _ _ _ (keeps_waits g.T.Assembly.stands c.args.draft.now) _ _ c.in_ok-sign.ensures.cases c.in-Counted.is _ c.in-err-least.ensures.cases.stops) }
 
 pub step-returns-in-ok-least : goal.step-returns-in-ok-least
-step-returns-in-ok-least g t c = record { cases = counted_of _ _ _ _ _ (keeps_waits g.T.Assembly.stands c.args.draft.now) _ _ c.in-ok-sign.ensures.cases c.in-Counted.is _ _ _ _ c.in-ok-least.ensures.cases (λ le. c.repeated-in-Counted.ensures.value _ (λ f. c.counted.ensures.value f le)) }
+step-returns-in-ok-least g t c = record { cases = counted_of _ _ _ _ _ (keeps_waits g.T.Assembly.stands c.args.draft.now) _ _ c.in_ok-sign.ensures.cases c.in-Counted.is _ _ _ _ c.in-ok-least.ensures.cases (λ le. c.repeated-in-Counted.ensures.value _ (λ f. c.counted.ensures.value f le)) }
 
 pub step-returns-in-Bar : goal.step-returns-in-Bar
-step-returns-in-Bar g t c = record { cases = bar_of _ _ _ _ _ _ _ (keeps_waits g.T.Assembly.stands c.args.draft.now) _ c.in-ok-sign.ensures.cases c.len.ensures.value _ c.in-Bar.is c.bar.ensures.value }
+step-returns-in-Bar g t c = record { cases = bar_of _ _ _ _ _ _ _ (keeps_waits g.T.Assembly.stands c.args.draft.now) _ c.in_ok-sign.ensures.cases c.len.ensures.value _ c.in-Bar.is c.bar.ensures.value }
 
 pub step-returns-in-Plain : goal.step-returns-in-Plain
-step-returns-in-Plain g t c = record { cases = plain_of _ _ _ _ _ _ _ (keeps_waits g.T.Assembly.stands c.args.draft.now) _ c.in-ok-sign.ensures.cases c.len.ensures.value _ c.in-Plain.is (λ b is. c.atom-in-Plain.ensures.value _ (subst (λ l. g.T.Assembly.stands c.byte.result (one (byte (get_or l 0 0)))) is c.byte.ensures.value)) }
+step-returns-in-Plain g t c = record { cases = plain_of _ _ _ _ _ _ _ (keeps_waits g.T.Assembly.stands c.args.draft.now) _ c.in_ok-sign.ensures.cases c.len.ensures.value _ c.in-Plain.is (λ b is. c.atom-in-Plain.ensures.value _ (subst (λ l. g.T.Assembly.stands c.byte.result (one (byte (get_or l 0 0)))) is c.byte.ensures.value)) }
 
 pub step-returns-in-Escape : goal.step-returns-in-Escape
-step-returns-in-Escape g t c = record { cases = escape_of _ _ _ _ _ _ _ (keeps_waits g.T.Assembly.stands c.args.draft.now) _ c.in-ok-sign.ensures.cases c.len.ensures.value _ c.in-Escape.is (λ b is. c.atom-in-Escape.ensures.value _ (subst (λ l. g.T.Assembly.stands c.byte-in-Escape.result (one (byte (get_or l 1 0)))) is c.byte-in-Escape.ensures.value)) }
+step-returns-in-Escape g t c = record { cases = escape_of _ _ _ _ _ _ _ (keeps_waits g.T.Assembly.stands c.args.draft.now) _ c.in_ok-sign.ensures.cases c.len.ensures.value _ c.in-Escape.is (λ b is. c.atom-in-Escape.ensures.value _ (subst (λ l. g.T.Assembly.stands c.byte-in-Escape.result (one (byte (get_or l 1 0)))) is c.byte-in-Escape.ensures.value)) }
 
 pub step-returns-in-Any : goal.step-returns-in-Any
-step-returns-in-Any g t c = record { cases = any_of _ _ _ _ _ _ _ (keeps_waits g.T.Assembly.stands c.args.draft.now) _ c.in-ok-sign.ensures.cases c.len.ensures.value _ c.in-Any.is (c.atom-in-Any.ensures.value _ c.any.ensures.value) }
+step-returns-in-Any g t c = record { cases = any_of _ _ _ _ _ _ _ (keeps_waits g.T.Assembly.stands c.args.draft.now) _ c.in_ok-sign.ensures.cases c.len.ensures.value _ c.in-Any.is (c.atom-in-Any.ensures.value _ c.any.ensures.value) }
 
 pub step-returns-in-err-close : goal.step-returns-in-err-close
 step-returns-in-err-close g t c =
     let p = err_from_is_err_and c.from-residual-in-err-close.result c.from-residual-in-err-close.ensures.1 in
-    record { cases = rw (p.1, p.2) (class_refused _ _ _ _ _ (keeps_waits g.T.Assembly.stands c.args.draft.now) _ _ c.in-ok-sign.ensures.cases c.in-Class.is _ c.in-err-close.ensures.cases.stops) }
+    record { cases = rw (p.1, p.2) (class_refused _ _ _ _ _ (keeps_waits g.T.Assembly.stands c.args.draft.now) _ _ c.in_ok-sign.ensures.cases c.in-Class.is _ c.in-err-close.ensures.cases.stops) }
 
 pub step-returns-in-ok-close : goal.step-returns-in-ok-close
 step-returns-in-ok-close g t c =
     record {
-      cases = class_of _ _ _ _ _ (keeps_waits g.T.Assembly.stands c.args.draft.now) _ _ c.in-ok-sign.ensures.cases c.in-Class.is _ _ _ c.in-ok-close.ensures.cases
+      cases = class_of _ _ _ _ _ (keeps_waits g.T.Assembly.stands c.args.draft.now) _ _ c.in_ok-sign.ensures.cases c.in-Class.is _ _ _ c.in-ok-close.ensures.cases
           (λ w rs ms some held. c.atom-in-Class.ensures.value _ (c.class.ensures.value w rs ms some held));
     }
 
 pub step-returns-in-Star : goal.step-returns-in-Star
-step-returns-in-Star g t c = record { cases = star_of _ _ _ _ _ _ _ (keeps_waits g.T.Assembly.stands c.args.draft.now) _ c.in-ok-sign.ensures.cases c.len.ensures.value _ c.in-Star.is (c.repeated.ensures.value _ c.star.ensures.value) }
+step-returns-in-Star g t c = record { cases = star_of _ _ _ _ _ _ _ (keeps_waits g.T.Assembly.stands c.args.draft.now) _ c.in_ok-sign.ensures.cases c.len.ensures.value _ c.in-Star.is (c.repeated.ensures.value _ c.star.ensures.value) }
 
 pub step-returns-in-Plus : goal.step-returns-in-Plus
-step-returns-in-Plus g t c = record { cases = plus_of _ _ _ _ _ _ _ (keeps_waits g.T.Assembly.stands c.args.draft.now) _ c.in-ok-sign.ensures.cases c.len.ensures.value _ c.in-Plus.is (c.repeated-in-Plus.ensures.value _ c.plus.ensures.value) }
+step-returns-in-Plus g t c = record { cases = plus_of _ _ _ _ _ _ _ (keeps_waits g.T.Assembly.stands c.args.draft.now) _ c.in_ok-sign.ensures.cases c.len.ensures.value _ c.in-Plus.is (c.repeated-in-Plus.ensures.value _ c.plus.ensures.value) }
 
 pub step-returns-in-Question : goal.step-returns-in-Question
-step-returns-in-Question g t c = record { cases = opt_of _ _ _ _ _ _ _ (keeps_waits g.T.Assembly.stands c.args.draft.now) _ c.in-ok-sign.ensures.cases c.len.ensures.value _ c.in-Question.is (c.repeated-in-Question.ensures.value _ c.optional.ensures.value) }
+step-returns-in-Question g t c = record { cases = opt_of _ _ _ _ _ _ _ (keeps_waits g.T.Assembly.stands c.args.draft.now) _ c.in_ok-sign.ensures.cases c.len.ensures.value _ c.in-Question.is (c.repeated-in-Question.ensures.value _ c.optional.ensures.value) }

@@ -5,15 +5,15 @@ use Rattle.pattern.proofs.SignWays.{class_stops, class_part}
 use Rattle.pattern.proofs.SignShapes.{no_class}
 use Rattle.pattern.proofs.sign.class_sign.Goals as goal
 
-pub returns-in-err-end : goal.returns-in-err-end
-returns-in-err-end c =
-    let p = err_from_is_err_and c.from-residual.result c.from-residual.ensures.1 in
+pub returns-in_err-end : goal.returns-in_err-end
+returns-in_err-end c =
+    let p = err_from_is_err_and c.from_residual.result c.from_residual.ensures.1 in
     let (lt, is) = c.requires.bracket in
-    let refused = c.in-err-end.ensures.cases in
+    let refused = c.in_err-end.ensures.cases in
     record { cases = rw (p.1, p.2) (record { none = no_class _ _ lt _ _ is refused; stops = class_stops _ _ lt _ _ is refused.stops }) }
 
 pub returns : goal.returns
 returns c =
     let (lt, is) = c.requires.bracket in
-    let read = c.in-ok-end.ensures.cases in
+    let read = c.in_ok-end.ensures.cases in
     record { cases = record { formed = (read.members, read.written, read.some); part = class_part _ _ lt _ is read _ refl; ended = sym (lt-leb _ _ lt) } }

@@ -10,19 +10,19 @@ use Rattle.pattern.proofs.sign.counted.Goals as goal
 pub returns-then-not-after : goal.returns-then-not-after
 returns-then-not-after c =
     let (lt, is) = c.requires.brace in
-    record { cases = subst (λ r. SignRefused c.args.p.now c.args.at r c.badly-written.result) (sym c.if-not-after.true) (record { none = none_here _ _ 123 lt is false (λ w shaped. false≢true shaped.0); stops = nothing_to_repeat _ _ lt _ 123 is (λ fr d ctx. refl) c.badly-written.ensures.value }) }
+    record { cases = subst (λ r. SignRefused c.args.p.now c.args.at r c.badly_written.result) (sym c.if-not-after.true) (record { none = none_here _ _ 123 lt is false (λ w shaped. false≢true shaped.0); stops = nothing_to_repeat _ _ lt _ 123 is (λ fr d ctx. refl) c.badly_written.ensures.value }) }
 
-pub returns-in-err-end : goal.returns-in-err-end
-returns-in-err-end c =
-    let p = err_from_is_err_and c.from-residual.result c.from-residual.ensures.1 in
+pub returns-in_err-end : goal.returns-in_err-end
+returns-in_err-end c =
+    let p = err_from_is_err_and c.from_residual.result c.from_residual.ensures.1 in
     let (lt, is) = c.requires.brace in
-    let refused = c.in-err-end.ensures.cases in
-    record { cases = rw (p.1, p.2) (subst (λ r. SignRefused c.args.p.now c.args.at r c.in-err-end.field-0.0) (sym c.if-not-after.false) (record { none = no_counts _ _ lt _ is refused; stops = count_stops _ _ lt _ is refused.stops })) }
+    let refused = c.in_err-end.ensures.cases in
+    record { cases = rw (p.1, p.2) (subst (λ r. SignRefused c.args.p.now c.args.at r c.in_err-end.field-0.0) (sym c.if-not-after.false) (record { none = no_counts _ _ lt _ is refused; stops = count_stops _ _ lt _ is refused.stops })) }
 
 pub returns : goal.returns
 returns c =
     let (lt, is) = c.requires.brace in
-    let read = c.in-ok-end.ensures.cases in
+    let read = c.in_ok-end.ensures.cases in
     record {
       cases = record {
         formed = (read.words, _, _, counted_is _ _ lt _ _ _ is read, read.counted, c.if-not-after.false);

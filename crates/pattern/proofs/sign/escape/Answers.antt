@@ -9,20 +9,20 @@ pub returns-then-at-p : goal.returns-then-at-p
 returns-then-at-p c =
     let (lt, is) = c.requires.backslash in
     let past : (c.args.at + 1 < length c.args.p.now) → escapable (get_or c.args.p.now (c.args.at + 1) 0) ≡ false = λ inside. absurd (omega arith) in
-    record { cases = record { none = no_escape _ _ lt _ is past; stops = escape_stops _ _ lt _ _ is past c.badly-written.ensures.value } }
+    record { cases = record { none = no_escape _ _ lt _ is past; stops = escape_stops _ _ lt _ _ is past c.badly_written.ensures.value } }
 
-pub returns-then-not-is-escapable : goal.returns-then-not-is-escapable
-returns-then-not-is-escapable c =
+pub returns-then-not-is_escapable : goal.returns-then-not-is_escapable
+returns-then-not-is_escapable c =
     let (lt, is) = c.requires.backslash in
-    let cannot = sym c.if-not-is-escapable.ensures.value in
-    record { cases = record { none = no_escape _ _ lt _ is (λ _. cannot); stops = escape_stops _ _ lt _ _ is (λ _. cannot) c.badly-written-then-not-is-escapable.ensures.value } }
+    let cannot = sym c.if-not-is_escapable.ensures.value in
+    record { cases = record { none = no_escape _ _ lt _ is (λ _. cannot); stops = escape_stops _ _ lt _ _ is (λ _. cannot) c.badly_written-then-not-is_escapable.ensures.value } }
 
 pub returns : goal.returns
 returns c =
     let (lt, is) = c.requires.backslash in
     record {
       cases = record {
-        formed = (_, two_bytes _ _ lt _ _ (omega arith) is refl, sym c.if-not-is-escapable.ensures.value);
+        formed = (_, two_bytes _ _ lt _ _ (omega arith) is refl, sym c.if-not-is_escapable.ensures.value);
         part = two_part _ _ lt (omega arith);
         ended = sym (lt-leb _ _ lt);
       };

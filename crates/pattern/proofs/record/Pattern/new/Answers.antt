@@ -2,5 +2,5 @@ use Rattle.std.proofs.Common.{arith}
 use Rattle.pattern.proofs.Outcomes.{empty_granted}
 use Rattle.pattern.proofs.record.Pattern.new.Goals as goal
 
-pub invariant-of-result : goal.invariant-of-result
-invariant-of-result c = (omega arith, (∣ (0, empty_granted) ∣₁, tt))
+pub invariant_of-result : goal.invariant_of-result
+invariant_of-result c = (omega arith, (∣ (0, empty_granted) ∣₁, tt))

@@ -6,15 +6,15 @@ use Rattle.pattern.proofs.Completes.{one_reading}
 use Rattle.pattern.proofs.Outcomes.{not_both}
 use Rattle.pattern.proofs.record.Pattern.read.Goals as goal
 
-pub returns-in-err-places : goal.returns-in-err-places
-returns-in-err-places c =
-    let p = err_from_is_err_and c.from-residual.result c.from-residual.ensures.1 in
-    record { cases = rw (p.1, p.2) (c.in-err-places.ensures.cases, c.new.ensures.held); one_reading = one_reading; exactly = rw p.1 ((λ e. absurd (false≢true e)), (λ r. absurd (not_both _ _ c.in-err-places.ensures.cases r))) }
+pub returns-in_err-places : goal.returns-in_err-places
+returns-in_err-places c =
+    let p = err_from_is_err_and c.from_residual.result c.from_residual.ensures.1 in
+    record { cases = rw (p.1, p.2) (c.in_err-places.ensures.cases, c.new.ensures.held); one_reading = one_reading; exactly = rw p.1 ((λ e. absurd (false≢true e)), (λ r. absurd (not_both _ _ c.in_err-places.ensures.cases r))) }
 
-pub invariant-of-self : goal.invariant-of-self
-invariant-of-self c = (c.in-ok-places.ensures.cases.short, (subst Holds (sym c.copied.ensures.front) ∣ (_, c.in-ok-places.ensures.cases) ∣₁, tt))
+pub invariant_of-self : goal.invariant_of-self
+invariant_of-self c = (c.in_ok-places.ensures.cases.short, (subst Holds (sym c.copied.ensures.front) ∣ (_, c.in_ok-places.ensures.cases) ∣₁, tt))
 
 pub returns : goal.returns
 returns c =
-    let granted = c.in-ok-places.ensures.cases in
+    let granted = c.in_ok-places.ensures.cases in
     record { cases = (granted, c.copied.ensures.front); one_reading = one_reading; exactly = ((λ _. (_, granted)), (λ _. refl)) }
