@@ -5,7 +5,7 @@ use Rattle.roll.proofs.feeding.feed.Goals as goal
 pub returns-then-bytes-strip : goal.returns-then-bytes-strip
 returns-then-bytes-strip g c = record {
   feeds = record {
-    text = bytes_slice _ c.type-inv.bytes;
+    text = bytes_slice _ c.type_inv.bytes;
     cases = (let over = c.if-bytes-strip.true in let short = c.args.strip.now.short in omega arith, refl, refl);
     holds = λ w h. h;
   };
@@ -13,7 +13,7 @@ returns-then-bytes-strip g c = record {
 
 pub returns : goal.returns
 returns g c =
-    let bytes = bytes_slice _ c.type-inv.bytes in
+    let bytes = bytes_slice _ c.type_inv.bytes in
     record {
       feeds = record {
         text = bytes;

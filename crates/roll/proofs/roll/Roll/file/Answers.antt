@@ -9,11 +9,11 @@ pub returns : goal.returns
 returns g c =
     let self = c.args.self.now in
     let slot = c.args.slot in
-    let in' : slot < self.size = room_none self.size slot _ _ (sym c.in-default.ensures.value) in
+    let in' : slot < self.size = room_none self.size slot _ _ (sym c.in_default.ensures.value) in
     record {
       files = record {
         refuses = record {
-          which = room_at self slot _ _ c.in-default.ensures.value;
+          which = room_at self slot _ _ c.in_default.ensures.value;
           same = λ f e. absurd (not_refused _ f refl e);
         };
         back = tt;

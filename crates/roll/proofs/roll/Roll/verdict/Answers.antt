@@ -9,7 +9,7 @@ pub returns : goal.returns
 returns g c = record {
   does = record {
     refuses = record {
-      which = tables_at c.args.self.now (length c.args.legs.now) (length c.args.tallies.now) c.in-ok-fitting.ensures.value;
+      which = tables_at c.args.self.now (length c.args.legs.now) (length c.args.tallies.now) c.in_ok-fitting.ensures.value;
       same = λ f e. refl;
     };
     keeps = λ p stands granted.

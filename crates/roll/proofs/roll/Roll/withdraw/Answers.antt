@@ -4,11 +4,11 @@ use Rattle.roll.proofs.Granting.{room_none, withdrawal_at, not_refused, refused_
 use Rattle.roll.proofs.Standing.{length_texts, stands_set}
 use Rattle.roll.proofs.roll.Roll.withdraw.Goals as goal
 
-pub returns-then-not-is-held : goal.returns-then-not-is-held
-returns-then-not-is-held g c =
+pub returns-then-not-is_held : goal.returns-then-not-is_held
+returns-then-not-is_held g c =
     let self = c.args.self.now in
     let which =
-    withdrawal_at self c.args.slot (length c.args.legs.now) (length c.args.tallies.now) _ c.in-ok-slot-at.ensures.value c.if-not-is-held.ensures.value
+    withdrawal_at self c.args.slot (length c.args.legs.now) (length c.args.tallies.now) _ c.in_ok-slot_at.ensures.value c.if-not-is_held.ensures.value
     ∙ ap Some (sym c.refuse.ensures.value) in
     record {
       does = record {
@@ -21,11 +21,11 @@ pub returns : goal.returns
 returns g c =
     let self = c.args.self.now in
     let slot = c.args.slot in
-    let in' : slot < self.size = room_none self.size slot _ _ (sym c.in-ok-slot-at.ensures.value) in
+    let in' : slot < self.size = room_none self.size slot _ _ (sym c.in_ok-slot_at.ensures.value) in
     record {
       does = record {
         refuses = record {
-          which = withdrawal_at self slot (length c.args.legs.now) (length c.args.tallies.now) _ c.in-ok-slot-at.ensures.value c.if-not-is-held.ensures.value;
+          which = withdrawal_at self slot (length c.args.legs.now) (length c.args.tallies.now) _ c.in_ok-slot_at.ensures.value c.if-not-is_held.ensures.value;
           same = λ f e. absurd (not_refused _ f refl e);
         };
         keeps = λ p stands granted.
