@@ -13,8 +13,8 @@ use Rattle.pattern.proofs.reader.+alternatives_group_step.Goals as goal
 pub alternatives-loop-next-init : goal.alternatives-loop-next-init
 alternatives-loop-next-init g t c = (omega arith, c.requires.within, record { mode = ready; frame = opened; keeps = c.new-draft.ensures.value; runs = λ ctx. refl })
 
-pub alternatives-returns-in-err-next : goal.alternatives-returns-in-err-next
-alternatives-returns-in-err-next g t c =
+pub alternatives-returns-in_err-next : goal.alternatives-returns-in_err-next
+alternatives-returns-in_err-next g t c =
     let p = err_from_is_err_and c.from_residual.result c.from_residual.ensures.1 in
     record { cases = rw (p.1, p.2) (walk_stops _ _ _ _ _ _ c.loop-next.invariant.2 c.in_err-next.ensures.cases) }
 
@@ -26,8 +26,8 @@ alternatives-returns g t c =
 pub group-returns-then-depth-eq0 : goal.group-returns-then-depth-eq0
 group-returns-then-depth-eq0 g t c = record { cases = too_deep _ _ c.requires.paren.0 c.requires.paren.1 _ _ c.if-depth-eq0.true c.badly_written.ensures.value }
 
-pub group-returns-in-err-end : goal.group-returns-in-err-end
-group-returns-in-err-end g t c =
+pub group-returns-in_err-end : goal.group-returns-in_err-end
+group-returns-in_err-end g t c =
     let p = err_from_is_err_and c.from_residual.result c.from_residual.ensures.1 in
     let deep : c.args.depth ≡ suc (c.args.depth - 1) = omega arith in
     record { cases = rw (p.1, p.2) (inner_stops _ _ c.requires.paren.0 c.requires.paren.1 _ _ _ deep c.in_err-end.ensures.cases) }
@@ -45,11 +45,11 @@ group-returns g t c =
 pub step-len-requires : goal.step-len-requires
 step-len-requires g t c = record { fits = omega (arith, sign_within _ _ _ _ c.requires.within c.in_ok-sign.ensures.cases) }
 
-pub step-overflow-add-end : goal.step-overflow-add-end
-step-overflow-add-end g t c = record { fits = omega (arith, sign_within _ _ _ _ c.requires.within c.in_ok-sign.ensures.cases, c.len.ensures.value) }
+pub step-overflow_add-end : goal.step-overflow_add-end
+step-overflow_add-end g t c = record { fits = omega (arith, sign_within _ _ _ _ c.requires.within c.in_ok-sign.ensures.cases, c.len.ensures.value) }
 
-pub step-returns-in-err-sign : goal.step-returns-in-err-sign
-step-returns-in-err-sign g t c =
+pub step-returns-in_err-sign : goal.step-returns-in_err-sign
+step-returns-in_err-sign g t c =
     let p = err_from_is_err_and c.from_residual.result c.from_residual.ensures.1 in
     record { cases = rw (p.1, p.2) (sign_stops _ _ _ _ _ (keeps_waits g.T.Assembly.stands c.args.draft.now) _ c.in_err-sign.ensures.cases.stops) }
 
@@ -58,14 +58,14 @@ step-group-requires g t c κs =
     let (lt, is) = begun _ _ _ _ _ 40 c.in_ok-sign.ensures.cases c.in-Open.is refl (λ f. f) in
     λ within. (omega arith, (within.0, (within.1, (lt, head_is c.args.p.now c.args.at 40 _ is))))
 
-pub step-returns-in-err-end : goal.step-returns-in-err-end
-step-returns-in-err-end g t c =
-    let p = err_from_is_err_and c.from-residual-in-err-end.result c.from-residual-in-err-end.ensures.1 in
+pub step-returns-in_err-end : goal.step-returns-in_err-end
+step-returns-in_err-end g t c =
+    let p = err_from_is_err_and c.from-residual-in_err-end.result c.from-residual-in_err-end.ensures.1 in
     let (lt, is) = begun _ _ _ _ _ 40 c.in_ok-sign.ensures.cases c.in-Open.is refl (λ f. f) in
     record { cases = rw (p.1, p.2) (group_stops _ _ _ _ _ (keeps_waits g.T.Assembly.stands c.args.draft.now) _ _ is c.in_err-end.ensures.cases) }
 
-pub step-returns-in-ok-end : goal.step-returns-in-ok-end
-step-returns-in-ok-end g t c =
+pub step-returns-in_ok-end : goal.step-returns-in_ok-end
+step-returns-in_ok-end g t c =
     let (lt, is) = begun _ _ _ _ _ 40 c.in_ok-sign.ensures.cases c.in-Open.is refl (λ f. f) in
     record { cases = group_steps _ _ _ _ _ (keeps_waits g.T.Assembly.stands c.args.draft.now) lt _ _ _ _ is c.in_ok-end.ensures.cases c.atom.ensures.value }
 
@@ -74,13 +74,13 @@ step-returns-in-Close g t c =
     let (lt, is) = begun _ _ _ _ _ 41 c.in_ok-sign.ensures.cases c.in-Close.is refl (λ f. f) in
     record { cases = λ _. head_is c.args.p.now c.args.at 41 _ is }
 
-pub step-returns-in-err-least : goal.step-returns-in-err-least
-step-returns-in-err-least g t c =
-    let p = err_from_is_err_and c.from-residual-in-err-least.result c.from-residual-in-err-least.ensures.1 in
-    record { cases = rw (p.1, p.2) (counted_refused _ _ _ _ _ (keeps_waits g.T.Assembly.stands c.args.draft.now) _ _ c.in_ok-sign.ensures.cases c.in-Counted.is _ c.in-err-least.ensures.cases.stops) }
+pub step-returns-in_err-least : goal.step-returns-in_err-least
+step-returns-in_err-least g t c =
+    let p = err_from_is_err_and c.from-residual-in_err-least.result c.from-residual-in_err-least.ensures.1 in
+    record { cases = rw (p.1, p.2) (counted_refused _ _ _ _ _ (keeps_waits g.T.Assembly.stands c.args.draft.now) _ _ c.in_ok-sign.ensures.cases c.in-Counted.is _ c.in_err-least.ensures.cases.stops) }
 
-pub step-returns-in-ok-least : goal.step-returns-in-ok-least
-step-returns-in-ok-least g t c = record { cases = counted_of _ _ _ _ _ (keeps_waits g.T.Assembly.stands c.args.draft.now) _ _ c.in_ok-sign.ensures.cases c.in-Counted.is _ _ _ _ c.in-ok-least.ensures.cases (λ le. c.repeated-in-Counted.ensures.value _ (λ f. c.counted.ensures.value f le)) }
+pub step-returns-in_ok-least : goal.step-returns-in_ok-least
+step-returns-in_ok-least g t c = record { cases = counted_of _ _ _ _ _ (keeps_waits g.T.Assembly.stands c.args.draft.now) _ _ c.in_ok-sign.ensures.cases c.in-Counted.is _ _ _ _ c.in_ok-least.ensures.cases (λ le. c.repeated-in-Counted.ensures.value _ (λ f. c.counted.ensures.value f le)) }
 
 pub step-returns-in-Bar : goal.step-returns-in-Bar
 step-returns-in-Bar g t c = record { cases = bar_of _ _ _ _ _ _ _ (keeps_waits g.T.Assembly.stands c.args.draft.now) _ c.in_ok-sign.ensures.cases c.len.ensures.value _ c.in-Bar.is c.bar.ensures.value }
@@ -94,15 +94,15 @@ step-returns-in-Escape g t c = record { cases = escape_of _ _ _ _ _ _ _ (keeps_w
 pub step-returns-in-Any : goal.step-returns-in-Any
 step-returns-in-Any g t c = record { cases = any_of _ _ _ _ _ _ _ (keeps_waits g.T.Assembly.stands c.args.draft.now) _ c.in_ok-sign.ensures.cases c.len.ensures.value _ c.in-Any.is (c.atom-in-Any.ensures.value _ c.any.ensures.value) }
 
-pub step-returns-in-err-close : goal.step-returns-in-err-close
-step-returns-in-err-close g t c =
-    let p = err_from_is_err_and c.from-residual-in-err-close.result c.from-residual-in-err-close.ensures.1 in
-    record { cases = rw (p.1, p.2) (class_refused _ _ _ _ _ (keeps_waits g.T.Assembly.stands c.args.draft.now) _ _ c.in_ok-sign.ensures.cases c.in-Class.is _ c.in-err-close.ensures.cases.stops) }
+pub step-returns-in_err-close : goal.step-returns-in_err-close
+step-returns-in_err-close g t c =
+    let p = err_from_is_err_and c.from-residual-in_err-close.result c.from-residual-in_err-close.ensures.1 in
+    record { cases = rw (p.1, p.2) (class_refused _ _ _ _ _ (keeps_waits g.T.Assembly.stands c.args.draft.now) _ _ c.in_ok-sign.ensures.cases c.in-Class.is _ c.in_err-close.ensures.cases.stops) }
 
-pub step-returns-in-ok-close : goal.step-returns-in-ok-close
-step-returns-in-ok-close g t c =
+pub step-returns-in_ok-close : goal.step-returns-in_ok-close
+step-returns-in_ok-close g t c =
     record {
-      cases = class_of _ _ _ _ _ (keeps_waits g.T.Assembly.stands c.args.draft.now) _ _ c.in_ok-sign.ensures.cases c.in-Class.is _ _ _ c.in-ok-close.ensures.cases
+      cases = class_of _ _ _ _ _ (keeps_waits g.T.Assembly.stands c.args.draft.now) _ _ c.in_ok-sign.ensures.cases c.in-Class.is _ _ _ c.in_ok-close.ensures.cases
           (λ w rs ms some held. c.atom-in-Class.ensures.value _ (c.class.ensures.value w rs ms some held));
     }
 

@@ -10,12 +10,12 @@ returns-in_err-least c = let p = err_from_is_err_and c.from_residual.result c.fr
 pub returns-then-end-p : goal.returns-then-end-p
 returns-then-end-p c = record { cases = after_first _ _ _ _ _ c.in_ok-least.ensures.cases (λ lt. absurd (omega arith)) (λ lt. absurd (omega arith)) c.badly_written.ensures.value }
 
-pub returns-in-err-most : goal.returns-in-err-most
-returns-in-err-most c = let p = err_from_is_err_and c.from-residual-in-err-most.result c.from-residual-in-err-most.ensures.1 in record { cases = rw (p.1, p.2) (second_refused _ _ _ _ _ c.in_ok-least.ensures.cases (omega arith) c.in-44.is c.in-err-most.ensures.cases) }
+pub returns-in_err-most-in-44 : goal.returns-in_err-most-in-44
+returns-in_err-most-in-44 c = let p = err_from_is_err_and c.from_residual-in_err-most-in-44.result c.from_residual-in_err-most-in-44.ensures.1 in record { cases = rw (p.1, p.2) (second_refused _ _ _ _ _ c.in_ok-least.ensures.cases (omega arith) c.in-44.is c.in_err-most-in-44.ensures.cases) }
 
 pub returns-then-not-closes : goal.returns-then-not-closes
 returns-then-not-closes c = record {
-  cases = after_second _ _ _ _ _ _ _ c.in_ok-least.ensures.cases (omega arith) c.in-44.is c.in-ok-most.ensures.cases
+  cases = after_second _ _ _ _ _ _ _ c.in_ok-least.ensures.cases (omega arith) c.in-44.is c.in_ok-most-in-44.ensures.cases
       (λ lt ends le. false≢true (c.if-not-closes.ensures.cases.1 (lt, ends, le))) c.badly_written-then-not-closes.ensures.value;
 }
 
@@ -25,7 +25,7 @@ returns-in-125 c = record { cases = one_count _ _ _ _ c.in_ok-least.ensures.case
 pub returns-else-not-closes : goal.returns-else-not-closes
 returns-else-not-closes c =
     let (lt, ends, le) = c.if-not-closes.ensures.cases.0 refl in
-    record { cases = two_counts _ _ _ _ _ _ c.in_ok-least.ensures.cases (omega arith) c.in-44.is c.in-ok-most.ensures.cases lt ends le }
+    record { cases = two_counts _ _ _ _ _ _ c.in_ok-least.ensures.cases (omega arith) c.in-44.is c.in_ok-most-in-44.ensures.cases lt ends le }
 
 pub returns-in_default : goal.returns-in_default
 returns-in_default c = record { cases = after_first _ _ _ _ _ c.in_ok-least.ensures.cases (λ lt is. omega arith) (λ lt is. omega arith) c.badly_written-in_default.ensures.value }

@@ -3,4 +3,4 @@ use Rattle.pattern.proofs.Outcomes.{empty_granted}
 use Rattle.pattern.proofs.record.Pattern.new.Goals as goal
 
 pub invariant_of-result : goal.invariant_of-result
-invariant_of-result c = (omega arith, (∣ (0, empty_granted) ∣₁, tt))
+invariant_of-result c = record { fits = omega arith; readable = ∣ (0, empty_granted) ∣₁ }

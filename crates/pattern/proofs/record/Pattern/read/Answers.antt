@@ -12,7 +12,7 @@ returns-in_err-places c =
     record { cases = rw (p.1, p.2) (c.in_err-places.ensures.cases, c.new.ensures.held); one_reading = one_reading; exactly = rw p.1 ((λ e. absurd (false≢true e)), (λ r. absurd (not_both _ _ c.in_err-places.ensures.cases r))) }
 
 pub invariant_of-self : goal.invariant_of-self
-invariant_of-self c = (c.in_ok-places.ensures.cases.short, (subst Holds (sym c.copied.ensures.front) ∣ (_, c.in_ok-places.ensures.cases) ∣₁, tt))
+invariant_of-self c = record { fits = c.in_ok-places.ensures.cases.short; readable = subst Holds (sym c.copied.ensures.front) ∣ (_, c.in_ok-places.ensures.cases) ∣₁ }
 
 pub returns : goal.returns
 returns c =
