@@ -58,29 +58,29 @@ step-group-requires g t c κs =
     let (lt, is) = begun _ _ _ _ _ 40 c.in_ok-sign.ensures.cases c.in-Open.is refl (λ f. f) in
     λ within. (omega arith, (within.0, (within.1, (lt, head_is c.args.p.now c.args.at 40 _ is))))
 
-pub step-returns-in_err-end : goal.step-returns-in_err-end
-step-returns-in_err-end g t c =
-    let p = err_from_is_err_and c.from-residual-in_err-end.result c.from-residual-in_err-end.ensures.1 in
+pub step-returns-in_err-end-in-Open : goal.step-returns-in_err-end-in-Open
+step-returns-in_err-end-in-Open g t c =
+    let p = err_from_is_err_and c.from_residual-in_err-end-in-Open.result c.from_residual-in_err-end-in-Open.ensures.1 in
     let (lt, is) = begun _ _ _ _ _ 40 c.in_ok-sign.ensures.cases c.in-Open.is refl (λ f. f) in
-    record { cases = rw (p.1, p.2) (group_stops _ _ _ _ _ (keeps_waits g.T.Assembly.stands c.args.draft.now) _ _ is c.in_err-end.ensures.cases) }
+    record { cases = rw (p.1, p.2) (group_stops _ _ _ _ _ (keeps_waits g.T.Assembly.stands c.args.draft.now) _ _ is c.in_err-end-in-Open.ensures.cases) }
 
-pub step-returns-in_ok-end : goal.step-returns-in_ok-end
-step-returns-in_ok-end g t c =
+pub step-returns-in_ok-end-in-Open : goal.step-returns-in_ok-end-in-Open
+step-returns-in_ok-end-in-Open g t c =
     let (lt, is) = begun _ _ _ _ _ 40 c.in_ok-sign.ensures.cases c.in-Open.is refl (λ f. f) in
-    record { cases = group_steps _ _ _ _ _ (keeps_waits g.T.Assembly.stands c.args.draft.now) lt _ _ _ _ is c.in_ok-end.ensures.cases c.atom.ensures.value }
+    record { cases = group_steps _ _ _ _ _ (keeps_waits g.T.Assembly.stands c.args.draft.now) lt _ _ _ _ is c.in_ok-end-in-Open.ensures.cases c.atom.ensures.value }
 
 pub step-returns-in-Close : goal.step-returns-in-Close
 step-returns-in-Close g t c =
     let (lt, is) = begun _ _ _ _ _ 41 c.in_ok-sign.ensures.cases c.in-Close.is refl (λ f. f) in
     record { cases = λ _. head_is c.args.p.now c.args.at 41 _ is }
 
-pub step-returns-in_err-least : goal.step-returns-in_err-least
-step-returns-in_err-least g t c =
-    let p = err_from_is_err_and c.from-residual-in_err-least.result c.from-residual-in_err-least.ensures.1 in
-    record { cases = rw (p.1, p.2) (counted_refused _ _ _ _ _ (keeps_waits g.T.Assembly.stands c.args.draft.now) _ _ c.in_ok-sign.ensures.cases c.in-Counted.is _ c.in_err-least.ensures.cases.stops) }
+pub step-returns-in_err-least-in-Counted : goal.step-returns-in_err-least-in-Counted
+step-returns-in_err-least-in-Counted g t c =
+    let p = err_from_is_err_and c.from_residual-in_err-least-in-Counted.result c.from_residual-in_err-least-in-Counted.ensures.1 in
+    record { cases = rw (p.1, p.2) (counted_refused _ _ _ _ _ (keeps_waits g.T.Assembly.stands c.args.draft.now) _ _ c.in_ok-sign.ensures.cases c.in-Counted.is _ c.in_err-least-in-Counted.ensures.cases.stops) }
 
-pub step-returns-in_ok-least : goal.step-returns-in_ok-least
-step-returns-in_ok-least g t c = record { cases = counted_of _ _ _ _ _ (keeps_waits g.T.Assembly.stands c.args.draft.now) _ _ c.in_ok-sign.ensures.cases c.in-Counted.is _ _ _ _ c.in_ok-least.ensures.cases (λ le. c.repeated-in-Counted.ensures.value _ (λ f. c.counted.ensures.value f le)) }
+pub step-returns-in_ok-least-in-Counted : goal.step-returns-in_ok-least-in-Counted
+step-returns-in_ok-least-in-Counted g t c = record { cases = counted_of _ _ _ _ _ (keeps_waits g.T.Assembly.stands c.args.draft.now) _ _ c.in_ok-sign.ensures.cases c.in-Counted.is _ _ _ _ c.in_ok-least-in-Counted.ensures.cases (λ le. c.repeated-in-Counted.ensures.value _ (λ f. c.counted.ensures.value f le)) }
 
 pub step-returns-in-Bar : goal.step-returns-in-Bar
 step-returns-in-Bar g t c = record { cases = bar_of _ _ _ _ _ _ _ (keeps_waits g.T.Assembly.stands c.args.draft.now) _ c.in_ok-sign.ensures.cases c.len.ensures.value _ c.in-Bar.is c.bar.ensures.value }
@@ -94,15 +94,15 @@ step-returns-in-Escape g t c = record { cases = escape_of _ _ _ _ _ _ _ (keeps_w
 pub step-returns-in-Any : goal.step-returns-in-Any
 step-returns-in-Any g t c = record { cases = any_of _ _ _ _ _ _ _ (keeps_waits g.T.Assembly.stands c.args.draft.now) _ c.in_ok-sign.ensures.cases c.len.ensures.value _ c.in-Any.is (c.atom-in-Any.ensures.value _ c.any.ensures.value) }
 
-pub step-returns-in_err-close : goal.step-returns-in_err-close
-step-returns-in_err-close g t c =
-    let p = err_from_is_err_and c.from-residual-in_err-close.result c.from-residual-in_err-close.ensures.1 in
-    record { cases = rw (p.1, p.2) (class_refused _ _ _ _ _ (keeps_waits g.T.Assembly.stands c.args.draft.now) _ _ c.in_ok-sign.ensures.cases c.in-Class.is _ c.in_err-close.ensures.cases.stops) }
+pub step-returns-in_err-close-in-Class : goal.step-returns-in_err-close-in-Class
+step-returns-in_err-close-in-Class g t c =
+    let p = err_from_is_err_and c.from_residual-in_err-close-in-Class.result c.from_residual-in_err-close-in-Class.ensures.1 in
+    record { cases = rw (p.1, p.2) (class_refused _ _ _ _ _ (keeps_waits g.T.Assembly.stands c.args.draft.now) _ _ c.in_ok-sign.ensures.cases c.in-Class.is _ c.in_err-close-in-Class.ensures.cases.stops) }
 
-pub step-returns-in_ok-close : goal.step-returns-in_ok-close
-step-returns-in_ok-close g t c =
+pub step-returns-in_ok-close-in-Class : goal.step-returns-in_ok-close-in-Class
+step-returns-in_ok-close-in-Class g t c =
     record {
-      cases = class_of _ _ _ _ _ (keeps_waits g.T.Assembly.stands c.args.draft.now) _ _ c.in_ok-sign.ensures.cases c.in-Class.is _ _ _ c.in_ok-close.ensures.cases
+      cases = class_of _ _ _ _ _ (keeps_waits g.T.Assembly.stands c.args.draft.now) _ _ c.in_ok-sign.ensures.cases c.in-Class.is _ _ _ c.in_ok-close-in-Class.ensures.cases
           (λ w rs ms some held. c.atom-in-Class.ensures.value _ (c.class.ensures.value w rs ms some held));
     }
 
