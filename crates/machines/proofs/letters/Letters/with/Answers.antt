@@ -1,10 +1,10 @@
 use Rattle.machines.proofs.Lettering.{with_letters, some_with}
 use Rattle.machines.proofs.letters.Letters.with.Goals as goal
 
-pub invariant-of-result : goal.invariant-of-result
-invariant-of-result c =
+pub invariant_of-result : goal.invariant_of-result
+invariant_of-result c =
     let a = c.args.self.now in
-    (some_with c.args.low c.args.high a.takes c.between.result c.both.result c.between.ensures.members c.both.ensures.members a.some, tt)
+    record { some = some_with c.args.low c.args.high a.takes c.between.result c.both.result c.between.ensures.members c.both.ensures.members a.some }
 
 pub returns : goal.returns
 returns c =

@@ -10,7 +10,7 @@ pub loop-q-preserved : goal.loop-q-preserved
 loop-q-preserved c =
     let a = c.args.self.now in
     let by = c.args.by in
-    filled_by_more 64 (λ q p. ((q ≡ 0) ⊎ (by < q)) × After by (nexts a (q - by)) p) c.loop-q.follow c.loop-q.q _ c.loop-q-test.true c.loop-q.invariant c.later-row.ensures.members
+    filled_by_more 64 (λ q p. ((q ≡ 0) ⊎ (by < q)) × After by (nexts a (q - by)) p) c.loop-q.follow c.loop-q.q _ c.loop-q-test.true c.loop-q.invariant c.later_row.ensures.members
 
 pub loop-c-preserved : goal.loop-c-preserved
 loop-c-preserved c =

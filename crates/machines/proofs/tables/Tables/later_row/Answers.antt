@@ -5,5 +5,5 @@ use Rattle.machines.proofs.tables.Tables.later_row.Goals as goal
 pub returns : goal.returns
 returns c =
     record {
-      members = λ p. later_row_has c.only.result c.later.result p c.args.q c.args.by c.saturating-sub-from.result (nexts c.args.self.now) (c.only.ensures.members p) (c.later.ensures.members p) c.saturating-sub-from.ensures;
+      members = λ p. later_row_has c.only.result c.later.result p c.args.q c.args.by c.saturating_sub-from.result (nexts c.args.self.now) (c.only.ensures.members p) (c.later.ensures.members p) c.saturating_sub-from.ensures;
     }

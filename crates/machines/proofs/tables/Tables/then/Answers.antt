@@ -9,7 +9,7 @@ pub loop-q-preserved : goal.loop-q-preserved
 loop-q-preserved c =
     let a = c.args.self.now in
     let b = c.args.second.now in
-    filled_by_more 64 (λ q p. Has (nexts a q) p ⊎ ((Has a.accepts q × Has (nexts b 0) p) ⊎ ((1 ≤ q) × Has (nexts b q) p))) c.loop-q.follow c.loop-q.q _ c.loop-q-test.true c.loop-q.invariant c.then-row.ensures.members
+    filled_by_more 64 (λ q p. Has (nexts a q) p ⊎ ((Has a.accepts q × Has (nexts b 0) p) ⊎ ((1 ≤ q) × Has (nexts b q) p))) c.loop-q.follow c.loop-q.q _ c.loop-q-test.true c.loop-q.invariant c.then_row.ensures.members
 
 pub returns : goal.returns
 returns c =
