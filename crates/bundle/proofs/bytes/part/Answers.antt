@@ -6,6 +6,6 @@ pub returns : goal.returns
 returns c =
     let bs = c.args.bytes.now in
     record {
-      front = c.split-at.ensures.front ∙ ap (λ k. take k bs) c.min.ensures ∙ take_min c.args.n bs;
-      back = c.split-at.ensures.back ∙ ap (λ k. drop k bs) c.min.ensures ∙ drop_min c.args.n bs;
+      front = c.split_at.ensures.front ∙ ap (λ k. take k bs) c.min.ensures ∙ take_min c.args.n bs;
+      back = c.split_at.ensures.back ∙ ap (λ k. drop k bs) c.min.ensures ∙ drop_min c.args.n bs;
     }

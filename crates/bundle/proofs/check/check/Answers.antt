@@ -4,16 +4,16 @@ use Rattle.bundle.specs.Handed.{strips_of}
 use Rattle.bundle.proofs.Checking.{read_refused, read_granted}
 use Rattle.bundle.proofs.check.check.Goals as goal
 
-pub returns-in-err-read : goal.returns-in-err-read
-returns-in-err-read c =
-    let p = err_from_is_err_and c.from-residual-in-err-read.result c.from-residual-in-err-read.ensures.1 in
-    let bundle = c.in-ok-bundle.ensures.cases in
-    record { outcome = inr (bundle.0, (_, _, bundle.1, read_refused _ _ (strips_of c.in-ok-bundle.bundle) _ _ _ c.pattern.ensures.value c.in-err-read.ensures.cases.0 p.1 p.2)) }
+pub returns-in_err-read : goal.returns-in_err-read
+returns-in_err-read c =
+    let p = err_from_is_err_and c.from_residual-in_err-read.result c.from_residual-in_err-read.ensures.1 in
+    let bundle = c.in_ok-bundle.ensures.cases in
+    record { outcome = inr (bundle.0, (_, _, bundle.1, read_refused _ _ (strips_of c.in_ok-bundle.bundle) _ _ _ c.pattern.ensures.value c.in_err-read.ensures.cases.0 p.1 p.2)) }
 
 pub returns : goal.returns
 returns c =
-    let bundle = c.in-ok-bundle.ensures.cases in
-    let read = c.in-ok-read.ensures.cases in
+    let bundle = c.in_ok-bundle.ensures.cases in
+    let read = c.in_ok-read.ensures.cases in
     record {
-      outcome = inr (bundle.0, (_, _, bundle.1, read_granted _ _ _ _ _ _ _ _ c.pattern.ensures.value read.0 read.1 (λ e written. let made = c.build-machine.ensures.tables e written in c.build-machine.ensures.means e made.0 made.1) c.strips.ensures.value c.in-ok-bundle.ensures.bytes.1 c.report.ensures.reported));
+      outcome = inr (bundle.0, (_, _, bundle.1, read_granted _ _ _ _ _ _ _ _ c.pattern.ensures.value read.0 read.1 (λ e written. let made = c.build-machine.ensures.tables e written in c.build-machine.ensures.means e made.0 made.1) c.strips.ensures.value c.in_ok-bundle.ensures.bytes.1 c.report.ensures.reported));
     }

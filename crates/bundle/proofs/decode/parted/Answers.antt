@@ -19,7 +19,7 @@ returns c =
     let last = c.part-3.ensures.back ∙ (λ i. drop (2 * n i) (after i)) in
     let pattern = c.part-4.ensures.front ∙ (λ i. take (p i) (last i)) in
     let texts = c.part-4.ensures.back ∙ (λ i. drop (p i) (last i)) in
-    let bytes = bytes_slice bs c.type-inv.input in
+    let bytes = bytes_slice bs c.type_inv.input in
     record {
       bytes = subst (λ x. x) (sym (λ i. Bytes (pattern i) × All OfBytes (cut (slots i) (lengths i) (texts i)))) (byte_parts bs bytes);
       whole = λ right. put_together bs bytes right ∙ sym (λ i. written (pattern i) (cut (slots i) (lengths i) (texts i)));

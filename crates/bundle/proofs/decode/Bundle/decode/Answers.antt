@@ -5,9 +5,9 @@ use Rattle.std.proofs.lemmas.Bool.{false≢true}
 use Rattle.bundle.proofs.Laws.{one_reading, granted}
 use Rattle.bundle.proofs.decode.Bundle.decode.Goals as goal
 
-pub returns-then-right-size : goal.returns-then-right-size
-returns-then-right-size c =
-    let right = c.if-right-size.ensures.0 refl in
+pub returns-then-right_size : goal.returns-then-right_size
+returns-then-right_size c =
+    let right = c.if-right_size.ensures.0 refl in
     record {
       cases = (right, c.parted.ensures.whole right);
       bytes = c.parted.ensures.bytes;
@@ -15,9 +15,9 @@ returns-then-right-size c =
       granted = granted;
     }
 
-pub returns-else-right-size : goal.returns-else-right-size
-returns-else-right-size c = record {
-  cases = (λ right. false≢true (c.if-right-size.ensures.1 right), ap (λ k. record { refusal = BundleSize; layer = Bundle; place = k }) c.min.ensures);
+pub returns-else-right_size : goal.returns-else-right_size
+returns-else-right_size c = record {
+  cases = (λ right. false≢true (c.if-right_size.ensures.1 right), ap (λ k. record { refusal = BundleSize; layer = Bundle; place = k }) c.min.ensures);
   bytes = tt;
   one_reading = one_reading;
   granted = granted;
