@@ -1,5 +1,5 @@
 -- The symbol of a class, member by member. Assumes nothing.
-use Rattle.std.proofs.Common.{ℕ, ◌<◌, ◌≤◌, ◌⊎◌, ◌↔◌, List, [], ◌∷◌, ◌++◌, length, inl, inr, ⊎_elim, arith}
+use Rattle.std.proofs.Common.{ℕ, ◌<◌, ◌≤◌, List, [], ◌∷◌, ◌++◌, length, inl, inr, ⊎_elim, arith}
 use Rattle.pattern.specs.Expressions.{Range, Symbol, Takes, byte, any}
 use Rattle.pattern.specs.Grammar.{ClassByte, bare, escaped, Member, single, range, Members, none, more}
 use Rattle.pattern.proofs.Chars.{escapable_low}

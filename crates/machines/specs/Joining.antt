@@ -1,5 +1,5 @@
 -- What comes first, ends, follows and stands in the members of two languages joined or united. Assumes nothing.
-use Rattle.std.specs.Prelude.{◌≡◌, ◌⊎◌, List, [], ◌∷◌, ◌++◌, ◌≢◌, refl}
+use Rattle.std.specs.Prelude.{◌⊎◌, List, [], ◌∷◌, ◌++◌, ◌≢◌, refl}
 use Rattle.std.proofs.Common.{sym, subst, append_assoc, append-nil, inl, inr, ⊎_elim}
 use Rattle.pattern.specs.Meaning.{Lang, Empty, Joined, Union}
 use Rattle.machines.specs.Spellings.{First, Ends, Follows, On}

@@ -10,8 +10,8 @@ use Rattle.pattern.specs.declared.class.Taken.TheVariants.{Inside, Ended, Refuse
 use Rattle.pattern.specs.Expressions.{Range, one}
 use Rattle.pattern.specs.Grammar.{Members, none}
 use Rattle.pattern.specs.Characters.{classKind}
-use Rattle.pattern.specs.Automaton.{Frame, State, state, opened, after, bad, good, inClass, fresh, classNext, ofClass, inside, finished, noClass, verdict}
-use Rattle.pattern.specs.Classes.{state_of, Suits, Follows, doneBy, ClassRead, ClassHeard, ClassStops, ClassRefused}
+use Rattle.pattern.specs.Automaton.{Frame, state, opened, after, bad, inClass, fresh, classNext, ofClass, inside, verdict}
+use Rattle.pattern.specs.Classes.{state_of, Suits, Follows, doneBy, ClassHeard, ClassStops, ClassRefused}
 use Rattle.pattern.specs.Refusals.{refused}
 use Rattle.pattern.proofs.Seen.{Class}
 use Rattle.pattern.proofs.ClassSeen.{class_goes, Goes}

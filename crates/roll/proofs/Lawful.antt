@@ -1,6 +1,5 @@
 -- The law over runs. Assumes that each machine's set has a member.
-use Rattle.std.proofs.Common.{◌≡◌, ℕ, zero, suc, ◌+◌, ◌<◌, ◌≤◌, Bool, List, [], ◌∷◌, ◌++◌, length, take, drop, Some, None, Decides, Option, unwrap_or, sym, refl, ap, ◌∙◌, subst, subst₂, ⊎_elim, append_assoc, arith, take-append-drop, MatchOption}
-use lib.ListN.{length-map}
+use Rattle.std.proofs.Common.{◌≡◌, ℕ, zero, suc, ◌+◌, Bool, List, [], ◌++◌, length, take, drop, Some, None, Decides, Option, sym, refl, ap, ◌∙◌, subst, subst₂, append_assoc, arith, take-append-drop, MatchOption}
 use Rattle.std.proofs.ByRecursion.{All-drop}
 use Rattle.std.proofs.lemmas.List.{take_all, nil_from_length}
 use Rattle.std.proofs.lemmas.Bool.Decides.{same_from_decides, Decides-like}
@@ -13,7 +12,7 @@ use Rattle.folding.specs.declared.tally.Tally.{Tally}
 use Rattle.folding.proofs.Texts.{bytes_append, bytes_together}
 use Rattle.folding.proofs.Trees.{together_append}
 use Rattle.roll.specs.Calls.{Answer, judged, tallied, named, refused, Gives, Answers}
-use Rattle.roll.specs.Law.{plain, Right, Same, Newest, Law}
+use Rattle.roll.specs.Law.{plain, Newest, Law}
 use Rattle.roll.specs.Plain.{Plain, texts, whole, marks}
 use Rattle.roll.specs.Refusals.{Call, verdict, totals, culprit, refusal}
 use Rattle.roll.specs.Runs.{Event}

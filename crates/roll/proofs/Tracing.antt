@@ -1,5 +1,5 @@
 -- Along every run the state stands for the plain roll, and every answer is the plain roll's. Assumes nothing.
-use Rattle.std.proofs.Common.{◌≡◌, ℕ, ◌*◌, List, [], ◌∷◌, ◌++◌, length, take, replicate, Some, None, Ok, Err, Option, Result, sym, refl, ap, ◌∙◌, subst, arith, MatchOption}
+use Rattle.std.proofs.Common.{◌≡◌, ℕ, List, [], ◌∷◌, length, take, replicate, Some, None, Ok, Err, Result, sym, refl, ap, ◌∙◌, subst, MatchOption}
 use Rattle.std.proofs.lemmas.List.{nil_from_length}
 use Rattle.fault.specs.declared.Fault.{Fault}
 use Rattle.folding.specs.Cells.{cells}
@@ -9,9 +9,9 @@ use Rattle.folding.proofs.Entries.{length_cells}
 use Rattle.roll.specs.Calls as calls
 use Rattle.roll.specs.Calls.{Answer, done, after, Gives, Answers}
 use Rattle.roll.specs.Law.{keep, plain, Right}
-use Rattle.roll.specs.Plain.{Plain, texts, marks}
+use Rattle.roll.specs.Plain.{texts, marks}
 use Rattle.roll.specs.Refusals.{Call, opening, filing, withdrawal, verdict, totals, culprit, refusal}
-use Rattle.roll.specs.Runs.{Fed, begun, more, full, back, Called, opens, files, withdraws, judges, adds, blames, Event, event, Run, made, granted, opened, refused}
+use Rattle.roll.specs.Runs.{Fed, begun, more, full, back, Called, opens, files, withdraws, judges, adds, blames, Event, Run, made, granted, opened, refused}
 use Rattle.roll.specs.Stands.{State, slots, Stands, Holds}
 use Rattle.roll.specs.Steps.{faultOf, heard, refusalAt, Does, Opens, AsMade}
 use Rattle.roll.specs.declared.strip.Strip.{Strip}

@@ -10,14 +10,13 @@
 --
 -- Open is what a granted call other than an opening answers and leaves where the state stands for no plain roll under this
 -- machine, or the strip holds no text under it: then `Keeps` says nothing, and `Refuses` still holds.
-use Rattle.std.specs.Prelude.{◌≡◌, ℕ, ◌+◌, ◌<◌, ◌≤◌, Bool, List, [], ◌++◌, length, replicate, IfErr, Some, None, Ok, Err, Option, Result, MatchResult}
-use Rattle.std.specs.Vec as vec
+use Rattle.std.specs.Prelude.{◌≡◌, ℕ, ◌+◌, ◌<◌, ◌≤◌, List, [], ◌++◌, length, replicate, IfErr, Some, None, Ok, Err, Option, Result, MatchResult}
 use Rattle.fault.specs.declared.Fault.{Fault}
 use Rattle.fault.specs.declared.Refusal.TheVariants.{StripTooLong}
 use Rattle.folding.specs.Texts.{Bytes}
 use Rattle.folding.specs.declared.tally.Tally.{Tally}
 use Rattle.roll.specs.Calls.{Answer, done, tallied, judged, named, refused, after, Gives}
-use Rattle.roll.specs.Plain.{Plain, marks}
+use Rattle.roll.specs.Plain.{Plain}
 use Rattle.roll.specs.Refusals.{Call, opening, filing, fault, refusal}
 use Rattle.roll.specs.Sizes.{longest}
 use Rattle.roll.specs.Stands.{State, slots, Stands, Holds}

@@ -1,4 +1,4 @@
-use Rattle.std.proofs.Common.{◌≡◌, ◌+◌, ◌*◌, ◌<◌, length, arith, rules}
+use Rattle.std.proofs.Common.{◌≡◌, ◌<◌, length, arith, rules}
 use Rattle.folding.proofs.Climbing.{rising_none, rising_more, risen}
 use Rattle.folding.proofs.cells.climb.Goals as goal
 
