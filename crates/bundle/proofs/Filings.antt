@@ -1,11 +1,11 @@
 -- Filing strips one by one, beside the plain roll. Assumes nothing.
-use Rattle.std.proofs.Common.{◌≡◌, ℕ, List, [], ◌∷◌, length, set, Some, None, Ok, Err, Option, Result, unwrap_or, sym, refl, ap, ◌∙◌, subst, arith, length-set}
+use Rattle.std.proofs.Common.{◌≡◌, ℕ, List, [], ◌∷◌, length, set, Some, None, Ok, Err, Result, unwrap_or, sym, refl, ap, ◌∙◌, subst, arith}
 use lib.ListN.{length-map}
 use Rattle.fault.specs.declared.Fault.{Fault}
 use Rattle.folding.specs.Tallies.{tally}
 use Rattle.folding.specs.declared.tally.Tally.{Tally}
 use Rattle.folding.proofs.Entries.{length_cells}
-use Rattle.roll.specs.Calls.{after, refused}
+use Rattle.roll.specs.Calls.{refused}
 use Rattle.roll.specs.Plain.{Plain, texts, marks}
 use Rattle.roll.specs.Refusals.{Call, filing, verdict, refusal}
 use Rattle.roll.specs.Stands.{State, Stands, Holds}

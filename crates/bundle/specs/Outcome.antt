@@ -4,7 +4,7 @@
 --   filed p ss   the plain roll once the strips are filed in their order, or the fault of the first that is refused
 --   Reports M p r    r is the report of a roll that holds the texts of p, where M is the set
 --   Reported M o r   the same, or the fault that ended the filing
-use Rattle.std.specs.Prelude.{◌≡◌, ℕ, Bool, List, [], ◌∷◌, replicate, Some, None, Ok, Err, Decides, Option, Result}
+use Rattle.std.specs.Prelude.{◌≡◌, ℕ, List, [], ◌∷◌, replicate, Some, None, Ok, Err, Decides, Option, Result}
 use Rattle.fault.specs.declared.Fault.{Fault}
 use Rattle.folding.specs.Losing.{FirstLost}
 use Rattle.folding.specs.Tallies.{tally}

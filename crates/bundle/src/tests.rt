@@ -29,7 +29,7 @@ fn refused_at(input: &[u8], place: usize) -> bool {
 #[test]
 fn hands_out_the_example(rt: HostRuntime) -> Result<(), Fail> {
     let bundle = Bundle::decode(EXAMPLE)?;
-    assert!(rt; bundle.pattern() == b".*");
+    assert!(rt; bundle.pattern() == b".*".as_slice());
     let mut strips = bundle.strips();
     assert!(rt; same(strips.next(), 1, b"tow\n"));
     assert!(rt; same(strips.next(), 0, b"one\n"));
