@@ -6,7 +6,7 @@ use Rattle.std.proofs.lemmas.Bool.{leb-true, le-leb, cases_eq}
 use Rattle.std.proofs.lemmas.Bool.Decides.{Decides-and, Decides-or, Decides-eqb, Decides-ltb}
 use Rattle.machines.specs.Building.{TablesBy}
 use Rattle.machines.specs.Masks.{Has, After}
-use Rattle.machines.specs.Members.{or_members, zero_has, zeroth_members, place_one_members}
+use Rattle.machines.specs.Shown.Members.{or_members, zero_has, zeroth_members, place_one_members}
 
 pub either_has : {P Q : Type 0} (a b p : ℕ) → Has a p ↔ P → Has b p ↔ Q → Has (bit_or a b) p ↔ (P ⊎ Q)
 either_has a b p x y = (

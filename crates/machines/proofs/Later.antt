@@ -7,10 +7,10 @@ use Rattle.machines.specs.declared.tables.Tables.{Tables}
 use Rattle.machines.specs.Building.{nexts, takers, Later}
 use Rattle.machines.specs.Masks.{Has}
 use Rattle.machines.specs.Spellings.{Place, First, Ends, Follows, On}
-use Rattle.machines.specs.Joining.{on_first, on_ends, on_before, on_after}
-use Rattle.machines.specs.Linear.{Linear}
+use Rattle.machines.specs.Shown.Joining.{on_first, on_ends, on_before, on_after}
+use Rattle.machines.specs.Shown.Linear.{Linear}
 use Rattle.machines.proofs.Moving.{up, Moves}
-use Rattle.machines.specs.Splits.{head_same, tail_same, not_empty}
+use Rattle.machines.specs.Shown.Splits.{head_same, tail_same, not_empty}
 use Rattle.machines.proofs.Tabling.{TablesFor}
 
 module _ {S : Type 0} (n : ℕ) where

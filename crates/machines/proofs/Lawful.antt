@@ -6,10 +6,10 @@ use Rattle.machines.specs.Laws.{SpelledExactly, EachPlaceLives, MeansExactly, Re
 use Rattle.machines.specs.PlaceTables.{Made}
 use Rattle.machines.specs.Runs.{leg}
 use Rattle.machines.specs.Soundness.{TakesSome}
-use Rattle.machines.specs.Machine.{meant_matches, leg_reached, made_narrow}
-use Rattle.machines.specs.Running.{leg_joined}
-use Rattle.machines.specs.Spelling.{meant_spelled, spelled_meant}
-use Rattle.machines.specs.Spread.{spread_linear}
+use Rattle.machines.specs.Shown.Machine.{meant_matches, leg_reached, made_narrow}
+use Rattle.machines.specs.Shown.Running.{leg_joined}
+use Rattle.machines.specs.Shown.Spelling.{meant_spelled, spelled_meant}
+use Rattle.machines.specs.Shown.Spread.{spread_linear}
 
 pub spelled_exactly : SpelledExactly
 spelled_exactly e w = (meant_spelled Takes e w, spelled_meant Takes e w)

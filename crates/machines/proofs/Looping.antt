@@ -5,10 +5,10 @@ use Rattle.pattern.specs.Meaning.{Lang, Empty, Union, Closure}
 use Rattle.machines.specs.declared.tables.Tables.{Tables}
 use Rattle.machines.specs.Building.{TablesBy, Loops, Passes}
 use Rattle.machines.specs.Spellings.{Place, On}
-use Rattle.machines.specs.Joining.{union_first, union_ends, union_follows, union_on, first_larger, ends_larger, follows_larger, on_larger, none_on, on_first, on_ends, on_before}
-use Rattle.machines.specs.Linear.{Single, single_on, single_follows}
-use Rattle.machines.specs.Repeating.{closure_once, closure_none, closure_first, closure_ends, closure_follows, closure_on, follows_round}
-use Rattle.machines.specs.Splits.{not_empty}
+use Rattle.machines.specs.Shown.Joining.{union_first, union_ends, union_follows, union_on, first_larger, ends_larger, follows_larger, on_larger, none_on, on_first, on_ends, on_before}
+use Rattle.machines.specs.Shown.Linear.{Single, single_on, single_follows}
+use Rattle.machines.specs.Shown.Repeating.{closure_once, closure_none, closure_first, closure_ends, closure_follows, closure_on, follows_round}
+use Rattle.machines.specs.Shown.Splits.{not_empty}
 use Rattle.machines.proofs.Tabling.{TablesFor}
 
 module _ (L : Lang (Place Symbol)) (a r : Tables) (l : TablesFor L a) where

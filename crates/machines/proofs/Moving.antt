@@ -6,7 +6,7 @@ use Rattle.pattern.specs.Expressions.{Expr, one, empty, seq, alt, star, plus, op
 use Rattle.pattern.specs.Meaning.{Lang, Empty, Joined, Union, Closure, Means}
 use Rattle.pattern.specs.Places.{places}
 use Rattle.machines.specs.Spellings.{Place, row, spread, SpellingFrom}
-use Rattle.machines.specs.Repeating.{closure_none, closure_more}
+use Rattle.machines.specs.Shown.Repeating.{closure_none, closure_more}
 
 module _ {S : Type 0} (n : ℕ) where
   abbrev pub up : Place S → Place S

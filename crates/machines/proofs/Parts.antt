@@ -15,7 +15,7 @@ use Rattle.machines.specs.Spellings.{Place, spread, Spelling, SpellingFrom}
 use Rattle.machines.proofs.Later.{later_tables}
 use Rattle.machines.proofs.Looping.{closure_tables, opt_tables, empty_tables, single_tables}
 use Rattle.machines.proofs.Moving.{spread_moves}
-use Rattle.machines.specs.Spread.{spread_linear}
+use Rattle.machines.specs.Shown.Spread.{spread_linear}
 use Rattle.machines.proofs.Tabling.{TablesFor, of_for, for_of, joined_tables}
 use Rattle.machines.proofs.Uniting.{union_tables}
 

@@ -3,7 +3,7 @@ use Rattle.std.proofs.Common.{◌≡◌, ℕ, ◌+◌, ◌-◌, ◌*◌, ◌/◌
 use Rattle.std.proofs.lemmas.Nat.{pow_pos, pow-add, shl-shr, shr-shr, field_of, mod-pow-add, mod_below}
 use Rattle.std.proofs.lemmas.Bool.{cases_lt}
 use Rattle.machines.specs.Masks.{bit, Has, After}
-use Rattle.machines.specs.Members.{has_below, high_bit}
+use Rattle.machines.specs.Shown.Members.{has_below, high_bit}
 
 -- the lowest digit stays where higher ones are cut off
 low_stays : (y j : ℕ) → y % 2 ^ (j + 1) % 2 ≡ y % 2

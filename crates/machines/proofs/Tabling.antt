@@ -8,9 +8,9 @@ use Rattle.machines.specs.Building.{nexts, takers, Then}
 use Rattle.machines.specs.Masks.{Has}
 use Rattle.machines.specs.PlaceTables.{TablesOf}
 use Rattle.machines.specs.Spellings.{Place, Spelling, Spells, First, Ends, Follows, On}
-use Rattle.machines.specs.Joining.{Member, joined_first, first_left, first_right, joined_ends, ends_left, ends_right, joined_follows, follows_left, follows_right, follows_across, joined_on, joined_on_left, joined_on_right}
-use Rattle.machines.specs.Spelling.{meant_spelled, spelled_meant}
-use Rattle.machines.specs.Splits.{both_empty}
+use Rattle.machines.specs.Shown.Joining.{Member, joined_first, first_left, first_right, joined_ends, ends_left, ends_right, joined_follows, follows_left, follows_right, follows_across, joined_on, joined_on_left, joined_on_right}
+use Rattle.machines.specs.Shown.Spelling.{meant_spelled, spelled_meant}
+use Rattle.machines.specs.Shown.Splits.{both_empty}
 
 pub record TablesFor (L : Lang (Place Symbol)) (t : Tables) : Type 0 where
   pub first : (p : ℕ) → Has (nexts t 0) p ↔ ((s : Symbol) × First L (p, s))

@@ -5,7 +5,7 @@ use Rattle.pattern.specs.Meaning.{Lang, Union}
 use Rattle.machines.specs.declared.tables.Tables.{Tables}
 use Rattle.machines.specs.Building.{Either}
 use Rattle.machines.specs.Spellings.{Place}
-use Rattle.machines.specs.Joining.{union_first, union_ends, union_follows, union_on, first_larger, ends_larger, follows_larger, on_larger}
+use Rattle.machines.specs.Shown.Joining.{union_first, union_ends, union_follows, union_on, first_larger, ends_larger, follows_larger, on_larger}
 use Rattle.machines.proofs.Tabling.{TablesFor}
 
 module _ (L M : Lang (Place Symbol)) (a b r : Tables) (l : TablesFor L a) (m : TablesFor M b) where

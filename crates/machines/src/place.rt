@@ -4,7 +4,7 @@ ghost use Rattle.std.specs.Prelude.{◌≡◌};
 ghost use Rattle.machines.specs.Laws.{SpelledExactly, EachPlaceLives, MeansExactly, ReachesExactly, JoinsExactly, Neutral};
 ghost use Rattle.machines.specs.PlaceTables.{Made, Meant};
 ghost use Rattle.machines.specs.Runs.{leg as leg_of};
-ghost use Rattle.machines.specs.Machine.{made_inhabited};
+ghost use Rattle.machines.specs.Shown.Machine.{made_inhabited};
 
 use crate::masks;
 use crate::placeno::PlaceNo;

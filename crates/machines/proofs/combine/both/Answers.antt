@@ -1,7 +1,7 @@
 use Rattle.std.proofs.Common.{◌⊎◌, get_or}
 use Rattle.machines.specs.Masks.{Has}
-use Rattle.machines.specs.Members.{or_members}
-use Rattle.machines.specs.Rows.{filled_by_more, filled_by_all}
+use Rattle.machines.specs.Shown.Members.{or_members}
+use Rattle.machines.specs.Shown.Rows.{filled_by_more, filled_by_all}
 use Rattle.machines.proofs.combine.both.Goals as goal
 
 pub loop-c-preserved : goal.loop-c-preserved

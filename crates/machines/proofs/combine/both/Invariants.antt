@@ -1,6 +1,6 @@
 use Rattle.std.proofs.Common.{◌⊎◌, get_or}
 use Rattle.machines.specs.Masks.{Has}
-use Rattle.machines.specs.Rows.{FilledBy}
+use Rattle.machines.specs.Shown.Rows.{FilledBy}
 use Rattle.machines.proofs.combine.both.Given as goal
 
 abbrev pub invariant-loop-c : goal.invariant-loop-c

@@ -1,6 +1,6 @@
 use Rattle.std.proofs.Common.{◌≡◌, ◌≤◌}
 use Rattle.machines.proofs.Combining.{range_has}
-use Rattle.machines.specs.Rows.{filled_by_more, filled_by_all}
+use Rattle.machines.specs.Shown.Rows.{filled_by_more, filled_by_all}
 use Rattle.machines.proofs.letters.between.Goals as goal
 
 pub loop-c-preserved : goal.loop-c-preserved

@@ -1,5 +1,5 @@
 use Rattle.std.proofs.Common.{◌≡◌, ◌≤◌}
-use Rattle.machines.specs.Rows.{FilledBy}
+use Rattle.machines.specs.Shown.Rows.{FilledBy}
 use Rattle.machines.proofs.letters.between.Given as goal
 
 abbrev pub invariant-loop-c : goal.invariant-loop-c

@@ -1,4 +1,4 @@
-use Rattle.machines.specs.Gathering.{Left}
+use Rattle.machines.specs.Shown.Gathering.{Left}
 use Rattle.machines.proofs.masks.gather.Given as goal
 
 abbrev pub invariant-loop-rest : goal.invariant-loop-rest

@@ -1,6 +1,6 @@
 use Rattle.std.proofs.Common.{◌/◌, ◌^◌, sym, ◌∙◌}
 use Rattle.std.proofs.lemmas.Bool.{eqb-true, eq-eqb}
-use Rattle.machines.specs.Gathering.{low_digit}
+use Rattle.machines.specs.Shown.Gathering.{low_digit}
 use Rattle.machines.proofs.masks.has.Goals as goal
 
 pub returns : goal.returns

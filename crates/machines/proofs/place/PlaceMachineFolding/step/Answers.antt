@@ -1,7 +1,7 @@
 use Rattle.std.proofs.Common.{get_or}
 use Rattle.machines.specs.Runs.{moved}
-use Rattle.machines.specs.Rows.{filled_all}
-use Rattle.machines.specs.Running.{leg_more}
+use Rattle.machines.specs.Shown.Rows.{filled_all}
+use Rattle.machines.specs.Shown.Running.{leg_more}
 use Rattle.machines.proofs.place.PlaceMachineFolding.step.Goals as goal
 
 pub returns : goal.returns

@@ -1,6 +1,6 @@
 use Rattle.std.proofs.Common.{◌^◌}
 use Rattle.std.proofs.lemmas.Nat.{one_shl}
-use Rattle.machines.specs.Rows.{filled_more, filled_all}
+use Rattle.machines.specs.Shown.Rows.{filled_more, filled_all}
 use Rattle.machines.proofs.relation.Relation.identity.Goals as goal
 
 pub loop-q-preserved : goal.loop-q-preserved

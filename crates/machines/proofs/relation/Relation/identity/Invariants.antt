@@ -1,5 +1,5 @@
 use Rattle.std.proofs.Common.{◌^◌}
-use Rattle.machines.specs.Rows.{Filled}
+use Rattle.machines.specs.Shown.Rows.{Filled}
 use Rattle.machines.proofs.relation.Relation.identity.Given as goal
 
 abbrev pub invariant-loop-q : goal.invariant-loop-q

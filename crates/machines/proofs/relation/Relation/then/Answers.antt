@@ -1,7 +1,7 @@
 use Rattle.std.proofs.Common.{get_or}
 use Rattle.machines.specs.Masks.{gathered}
-use Rattle.machines.specs.Composing.{same_relation, composed_by, associative}
-use Rattle.machines.specs.Rows.{filled_all}
+use Rattle.machines.specs.Shown.Composing.{same_relation, composed_by, associative}
+use Rattle.machines.specs.Shown.Rows.{filled_all}
 use Rattle.machines.proofs.relation.Relation.then.Goals as goal
 
 pub returns : goal.returns

@@ -1,6 +1,6 @@
 use Rattle.std.proofs.Common.{get_or}
 use Rattle.machines.specs.Masks.{gathered}
-use Rattle.machines.specs.Rows.{Filled}
+use Rattle.machines.specs.Shown.Rows.{Filled}
 use Rattle.machines.proofs.relation.Relation.then.Given as goal
 
 abbrev pub invariant-loop-q : goal.invariant-loop-q

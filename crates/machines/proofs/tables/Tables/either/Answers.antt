@@ -1,8 +1,8 @@
 use Rattle.std.proofs.Common.{◌⊎◌}
 use Rattle.machines.specs.Building.{nexts}
 use Rattle.machines.specs.Masks.{Has}
-use Rattle.machines.specs.Members.{or_members}
-use Rattle.machines.specs.Rows.{filled_by_more, filled_by_all}
+use Rattle.machines.specs.Shown.Members.{or_members}
+use Rattle.machines.specs.Shown.Rows.{filled_by_more, filled_by_all}
 use Rattle.machines.proofs.tables.Tables.either.Goals as goal
 
 pub loop-q-preserved : goal.loop-q-preserved

@@ -2,8 +2,8 @@ use Rattle.std.proofs.Common.{◌≡◌, ◌-◌, ◌<◌, ◌⊎◌}
 use Rattle.machines.specs.Building.{nexts, takers}
 use Rattle.machines.specs.Masks.{After}
 use Rattle.machines.proofs.Combining.{either_has, only_has, swapped}
-use Rattle.machines.specs.Members.{zeroth_members}
-use Rattle.machines.specs.Rows.{filled_by_more, filled_by_all}
+use Rattle.machines.specs.Shown.Members.{zeroth_members}
+use Rattle.machines.specs.Shown.Rows.{filled_by_more, filled_by_all}
 use Rattle.machines.proofs.tables.Tables.later.Goals as goal
 
 pub loop-q-preserved : goal.loop-q-preserved

@@ -1,7 +1,7 @@
 use Rattle.std.proofs.Common.{◌≡◌, ◌-◌, ◌<◌, ◌⊎◌}
 use Rattle.machines.specs.Building.{nexts, takers}
 use Rattle.machines.specs.Masks.{After}
-use Rattle.machines.specs.Rows.{FilledBy}
+use Rattle.machines.specs.Shown.Rows.{FilledBy}
 use Rattle.machines.proofs.tables.Tables.later.Given as goal
 
 abbrev pub invariant-loop-q : goal.invariant-loop-q

@@ -1,7 +1,7 @@
 use Rattle.std.proofs.Common.{◌⊎◌}
 use Rattle.machines.specs.Building.{nexts}
 use Rattle.machines.specs.Masks.{Has}
-use Rattle.machines.specs.Rows.{FilledBy}
+use Rattle.machines.specs.Shown.Rows.{FilledBy}
 use Rattle.machines.proofs.tables.Tables.looped.Given as goal
 
 abbrev pub invariant-loop-q : goal.invariant-loop-q

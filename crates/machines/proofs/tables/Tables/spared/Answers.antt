@@ -1,6 +1,6 @@
 use Rattle.machines.specs.Building.{nexts, takers}
 use Rattle.machines.proofs.Combining.{either_has, same_has}
-use Rattle.machines.specs.Members.{zeroth_members}
+use Rattle.machines.specs.Shown.Members.{zeroth_members}
 use Rattle.machines.proofs.tables.Tables.spared.Goals as goal
 
 pub returns : goal.returns

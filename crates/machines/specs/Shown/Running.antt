@@ -7,10 +7,10 @@ use Rattle.machines.specs.declared.tables.Tables.{Tables}
 use Rattle.machines.specs.Masks.{Has, gathered}
 use Rattle.machines.specs.Relations.{rows_of, row, composed, identity}
 use Rattle.machines.specs.Runs.{moved, after, leg}
-use Rattle.machines.specs.Composing.{same_relation}
-use Rattle.machines.specs.Gathering.{gathered_members}
-use Rattle.machines.specs.Members.{same_masks, and_has, has_and, power_has, has_power}
-use Rattle.machines.specs.Rows.{rows_at, same_rows}
+use Rattle.machines.specs.Shown.Composing.{same_relation}
+use Rattle.machines.specs.Shown.Gathering.{gathered_members}
+use Rattle.machines.specs.Shown.Members.{same_masks, and_has, has_and, power_has, has_power}
+use Rattle.machines.specs.Shown.Rows.{rows_at, same_rows}
 
 module _ (t : Tables) where
   abbrev pub LeadsBy : ℕ → ℕ → ℕ → Type 0

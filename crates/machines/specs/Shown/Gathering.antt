@@ -6,7 +6,7 @@ use Rattle.std.specs.Int.Count.{count_trailing_zeros, under}
 use Rattle.std.proofs.lemmas.Nat.{pow_pos, shr_below, xor_shr, and_mask}
 use Rattle.std.proofs.lemmas.Bool.{cases_lt, cases_eq, eq-eqb, ne_eqb, cond-true, cond-false}
 use Rattle.machines.specs.Masks.{bit, Has, union, gathered, Gathered}
-use Rattle.machines.specs.Members.{zero_has, has_cases, or_has, has_or_left, has_or_right, and_has, has_and, has_below, has_power, power_has, low_bit, high_bit, same_masks}
+use Rattle.machines.specs.Shown.Members.{zero_has, has_cases, or_has, has_or_left, has_or_right, and_has, has_and, has_below, has_power, power_has, low_bit, high_bit, same_masks}
 
 abbrev Among : List ℕ → ℕ → ℕ → ℕ → Type 0
 Among rows set n p = (q : ℕ) × (q < n) × Has set q × Has (slice_index rows q) p

@@ -5,8 +5,8 @@ use Rattle.std.proofs.lemmas.Bool.Decides.{Decides-eqb, Decides-ltb, Decides-and
 use Rattle.folding.specs.Texts.{Bytes}
 use Rattle.machines.specs.declared.tables.Tables.{Tables}
 use Rattle.machines.specs.Masks.{bit, Has}
-use Rattle.machines.specs.Least.{found}
-use Rattle.machines.specs.Running.{LeadsBy, ReachesBy}
+use Rattle.machines.specs.Shown.Least.{found}
+use Rattle.machines.specs.Shown.Running.{LeadsBy, ReachesBy}
 
 any_below : (ℕ → Bool) → ℕ → Bool
 any_below test zero = false

@@ -4,8 +4,8 @@ use Rattle.std.proofs.Common.{sym, ap, subst, ◌∙◌, append_assoc, append-ni
 use Rattle.std.specs.List.{flat_map, AllByRecursion as All}
 use Rattle.pattern.specs.Meaning.{Lang, Closure}
 use Rattle.machines.specs.Spellings.{First, Ends, Follows, On}
-use Rattle.machines.specs.Splits.{split_at, split_pair, split_last, split_first, not_empty}
-use Rattle.machines.specs.Joining.{none_append}
+use Rattle.machines.specs.Shown.Splits.{split_at, split_pair, split_last, split_first, not_empty}
+use Rattle.machines.specs.Shown.Joining.{none_append}
 
 -- the members of a list of lists, one after the other
 abbrev flat : {P : Type 0} → List (List P) → List P

@@ -7,8 +7,8 @@ use Rattle.pattern.specs.Meaning.{Lang, Empty, Union, Closure, Means}
 use Rattle.pattern.specs.Places.{places}
 use Rattle.machines.specs.Soundness.{Sound}
 use Rattle.machines.specs.Spellings.{Place, row, spread, SpellingFrom}
-use Rattle.machines.specs.Linear.{Linear, single_linear, empty_linear, union_linear}
-use Rattle.machines.specs.Chains.{joined_linear, closure_linear}
+use Rattle.machines.specs.Shown.Linear.{Linear, single_linear, empty_linear, union_linear}
+use Rattle.machines.specs.Shown.Chains.{joined_linear, closure_linear}
 
 module _ {S : Type 0} where
   abbrev Mean : Expr (Place S) → Lang (Place S)

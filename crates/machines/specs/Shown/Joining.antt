@@ -3,7 +3,7 @@ use Rattle.std.specs.Prelude.{◌⊎◌, List, [], ◌∷◌, ◌++◌, ◌≢�
 use Rattle.std.proofs.Common.{sym, subst, append_assoc, append-nil, inl, inr, ⊎_elim}
 use Rattle.pattern.specs.Meaning.{Lang, Empty, Joined, Union}
 use Rattle.machines.specs.Spellings.{First, Ends, Follows, On}
-use Rattle.machines.specs.Splits.{split_at, split_pair, split_last, split_first, not_empty}
+use Rattle.machines.specs.Shown.Splits.{split_at, split_pair, split_last, split_first, not_empty}
 
 -- a language with a member
 abbrev pub Member : {P : Type 0} → Lang P → Type 0

@@ -6,7 +6,7 @@ use Rattle.pattern.specs.Expressions.{Expr, one, empty, seq, alt, star, plus, op
 use Rattle.pattern.specs.Meaning.{Lang, Empty, Joined, Union, Closure, Copies, Means}
 use Rattle.pattern.specs.Places.{places}
 use Rattle.machines.specs.Spellings.{Place, row, spread, SpellingFrom, Spells, Spelled}
-use Rattle.machines.specs.Repeating.{closure_none, closure_more}
+use Rattle.machines.specs.Shown.Repeating.{closure_none, closure_more}
 
 module _ {S A : Type 0} (takes : S → A → Type 0) where
   spells_append : (ps qs : List (Place S)) (v w : List A) → Spells takes ps v → Spells takes qs w → Spells takes (ps ++ qs) (v ++ w)

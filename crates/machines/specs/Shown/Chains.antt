@@ -4,9 +4,9 @@ use Rattle.std.proofs.Common.{sym, ap, subst, inl, inr, ⊎_elim, arith}
 use Rattle.std.proofs.lemmas.Bool.{cases_lt}
 use Rattle.pattern.specs.Meaning.{Lang, Joined, Closure}
 use Rattle.machines.specs.Spellings.{Place, First}
-use Rattle.machines.specs.Joining.{on_first, on_ends, on_before, on_after, joined_first, joined_ends, joined_follows, joined_on, joined_on_left, joined_on_right, on_larger}
-use Rattle.machines.specs.Repeating.{closure_once, closure_none, closure_more, closure_first, closure_ends, closure_follows, closure_on}
-use Rattle.machines.specs.Linear.{Walk, Linear}
+use Rattle.machines.specs.Shown.Joining.{on_first, on_ends, on_before, on_after, joined_first, joined_ends, joined_follows, joined_on, joined_on_left, joined_on_right, on_larger}
+use Rattle.machines.specs.Shown.Repeating.{closure_once, closure_none, closure_more, closure_first, closure_ends, closure_follows, closure_on}
+use Rattle.machines.specs.Shown.Linear.{Walk, Linear}
 
 -- One language and then another, whose places come later.
 

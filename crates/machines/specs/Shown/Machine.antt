@@ -18,10 +18,10 @@ use Rattle.machines.specs.PlaceTables.{TablesOf, Made, Meant, Stands}
 use Rattle.machines.specs.Relations.{row}
 use Rattle.machines.specs.Runs.{Leads, Reaches, leg, Reached}
 use Rattle.machines.specs.Soundness.{Sane}
-use Rattle.machines.specs.Judging.{on_high, run_meant, meant_run, reaches_live, live_ends}
-use Rattle.machines.specs.Members.{some_member, zero_has, and_has, has_and}
-use Rattle.machines.specs.Running.{LeadsBy, ReachesBy, Narrow, leg_has, has_leg, reaches_split, reaches_join}
-use Rattle.machines.specs.Searching.{Away, away_found, away_text}
+use Rattle.machines.specs.Shown.Judging.{on_high, run_meant, meant_run, reaches_live, live_ends}
+use Rattle.machines.specs.Shown.Members.{some_member, zero_has, and_has, has_and}
+use Rattle.machines.specs.Shown.Running.{LeadsBy, ReachesBy, Narrow, leg_has, has_leg, reaches_split, reaches_join}
+use Rattle.machines.specs.Shown.Searching.{Away, away_found, away_text}
 
 when_from : {P Q : Type 0} (b : Bool) → (b ≡ true → P) → (b ≡ false → Q) → MatchBool b P Q
 when_from true p q = p refl

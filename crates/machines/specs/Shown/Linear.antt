@@ -9,8 +9,8 @@ use Rattle.pattern.specs.Expressions.{one}
 use Rattle.pattern.specs.Meaning.{Lang, Empty, Union, Means}
 use Rattle.std.proofs.lemmas.Bool.{cases_lt}
 use Rattle.machines.specs.Spellings.{Place, First, Ends, Follows, On}
-use Rattle.machines.specs.Splits.{head_same, tail_same, not_empty}
-use Rattle.machines.specs.Joining.{Member, none_append, none_on, on_first, on_ends, on_before, on_after, union_first, union_ends, union_follows, union_on, on_larger}
+use Rattle.machines.specs.Shown.Splits.{head_same, tail_same, not_empty}
+use Rattle.machines.specs.Shown.Joining.{Member, none_append, none_on, on_first, on_ends, on_before, on_after, union_first, union_ends, union_follows, union_on, on_larger}
 
 abbrev pub Walk : {P : Type 0} → Lang P → P → List P → Type 0
 Walk L q [] = Ends L q

@@ -7,9 +7,9 @@ use Rattle.pattern.specs.Places.{places}
 use Rattle.folding.specs.Texts.{Bytes}
 use Rattle.machines.specs.Soundness.{Sound, TakesSome}
 use Rattle.machines.specs.Spellings.{Place, row, spread, SpellingFrom, Spells, On}
-use Rattle.machines.specs.Joining.{none_on, joined_on, union_on}
-use Rattle.machines.specs.Linear.{single_on}
-use Rattle.machines.specs.Repeating.{closure_on}
+use Rattle.machines.specs.Shown.Joining.{none_on, joined_on, union_on}
+use Rattle.machines.specs.Shown.Linear.{single_on}
+use Rattle.machines.specs.Shown.Repeating.{closure_on}
 
 module _ {S : Type 0} (ok : S → Type 0) where
   abbrev Fine : Lang (Place S) → Type 0

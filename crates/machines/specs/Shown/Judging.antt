@@ -12,11 +12,11 @@ use Rattle.machines.specs.PlaceTables.{TablesOf, Comes, Stands}
 use Rattle.machines.specs.Runs.{Leads, Reaches}
 use Rattle.machines.specs.Soundness.{Sane, TakesSome}
 use Rattle.machines.specs.Spellings.{Place, Spelling, Spells, Ends, Follows, On}
-use Rattle.machines.specs.Joining.{on_first, on_ends, on_before, on_after}
-use Rattle.machines.specs.Linear.{Linear, Walk}
-use Rattle.machines.specs.Spelling.{meant_spelled, spelled_meant}
-use Rattle.machines.specs.Spread.{spread_linear}
-use Rattle.machines.specs.Symbols.{spread_fine, letters}
+use Rattle.machines.specs.Shown.Joining.{on_first, on_ends, on_before, on_after}
+use Rattle.machines.specs.Shown.Linear.{Linear, Walk}
+use Rattle.machines.specs.Shown.Spelling.{meant_spelled, spelled_meant}
+use Rattle.machines.specs.Shown.Spread.{spread_linear}
+use Rattle.machines.specs.Shown.Symbols.{spread_fine, letters}
 
 pub led : (e : Regex) (q c p : ℕ) → 1 ≤ q → Leads e q c p → Comes e q p × Stands e c p
 led e zero c p low h = absurd (omega arith)

@@ -4,9 +4,9 @@ use Rattle.std.proofs.Common.{sym, subst}
 use Rattle.machines.specs.declared.relation.Relation.{Relation}
 use Rattle.machines.specs.Masks.{Has, gathered}
 use Rattle.machines.specs.Relations.{row, composed, Composes, Associative}
-use Rattle.machines.specs.Gathering.{gathered_members}
-use Rattle.machines.specs.Members.{same_masks}
-use Rattle.machines.specs.Rows.{rows_at, same_rows}
+use Rattle.machines.specs.Shown.Gathering.{gathered_members}
+use Rattle.machines.specs.Shown.Members.{same_masks}
+use Rattle.machines.specs.Shown.Rows.{rows_at, same_rows}
 
 pub same_relation : (a b : Relation) → a.rows ≡ b.rows → a ≡ b
 same_relation a b e i = record { rows = e i }
