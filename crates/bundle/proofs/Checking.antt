@@ -1,6 +1,6 @@
 -- What a bundle's pattern and strips come to, once the pattern is read or refused. Assumes nothing.
 use Rattle.std.proofs.Common.{◌≡◌, ℕ, ◌≤◌, ◌↔◌, List, length, Err, Result, sym, ◌∙◌, subst, inl, inr}
-use Rattle.std.specs.List.{AllByRecursion as All}
+use Rattle.std.specs.List.{AllByRecursion}
 use Rattle.fault.specs.declared.Fault.{Fault}
 use Rattle.folding.specs.Texts.{Bytes}
 use Rattle.pattern.specs.Expressions.{Regex}
@@ -18,7 +18,7 @@ pub read_refused : (p q : List ℕ) (ss : List Piece) (r : Result Report Fault) 
 read_refused p q ss r f g same refused is e = inl (f, subst (λ x. Refused x f) same refused, is ∙ (λ i. Err (e i)))
 
 -- `held` is what the record holds, and `ts` the strips that were filed
-pub read_granted : (p q held : List ℕ) (n : ℕ) (ss ts : List Piece) (r : Result Report Fault) (M : List ℕ → Type 0) → q ≡ p → Granted q n → held ≡ q → ((e : Regex) → Written deepest held e → (w : List ℕ) → Bytes w → M w ↔ Matches e w) → ts ≡ ss → All OfBytes ss → Reported M (filed opened ts) r → Checked p ss r
+pub read_granted : (p q held : List ℕ) (n : ℕ) (ss ts : List Piece) (r : Result Report Fault) (M : List ℕ → Type 0) → q ≡ p → Granted q n → held ≡ q → ((e : Regex) → Written deepest held e → (w : List ℕ) → Bytes w → M w ↔ Matches e w) → ts ≡ ss → AllByRecursion OfBytes ss → Reported M (filed opened ts) r → Checked p ss r
 read_granted p q held n ss ts r M same granted holds means filing of report =
     let e = granted.expression in
     let written : Written deepest p e = subst (λ x. Written deepest x e) same granted.written in

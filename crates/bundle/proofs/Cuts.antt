@@ -1,6 +1,6 @@
 -- Cutting runs of slots, lengths and texts into strips, and joining strips again. Assumes nothing.
 use Rattle.std.proofs.Common.{◌≡◌, ℕ, suc, ◌+◌, ◌*◌, ◌<◌, ◌≤◌, List, [], ◌∷◌, ◌++◌, length, take, drop, sym, refl, ap, ◌∙◌, arith}
-use Rattle.std.specs.List.{AllByRecursion as All}
+use Rattle.std.specs.List.{AllByRecursion}
 use Rattle.std.proofs.ByRecursion.{All-take, All-drop}
 use Rattle.std.proofs.lemmas.List.{length-append, length-drop, length-take-le, take-append-drop, take_at, drop_at, nil_from_length}
 use Rattle.folding.specs.Texts.{Bytes}
@@ -35,7 +35,7 @@ texts_cut (s ∷ ss) ls ts e =
     let rest = texts_cut ss (drop 2 ls) (drop w ts) (omega (arith, sum_step ls (length ss), length-drop w ts)) in
     ap (λ l. take w ts ++ l) rest ∙ take-append-drop w ts
 
-pub bytes_cut : (ss ls ts : List ℕ) → Bytes ss → Bytes ts → All OfBytes (cut ss ls ts)
+pub bytes_cut : (ss ls ts : List ℕ) → Bytes ss → Bytes ts → AllByRecursion OfBytes (cut ss ls ts)
 bytes_cut [] ls ts a b = tt
 bytes_cut (s ∷ ss) ls ts a b =
     let w = word16 ls 0 in

@@ -3,7 +3,7 @@ use Rattle.std.proofs.Common.{◌≡◌, ℕ, zero, suc, ◌+◌, List, [], ◌�
 use Rattle.std.proofs.ByRecursion.{All-take, All-set}
 use Rattle.std.proofs.lemmas.List.{map-set}
 use Rattle.std.proofs.lemmas.Bool.Decides.{Decides-like}
-use Rattle.std.specs.List.{AllByRecursion as All}
+use Rattle.std.specs.List.{AllByRecursion}
 use Rattle.fault.specs.declared.Fault.{Fault}
 use Rattle.folding.specs.Losing.{upto, FirstLost}
 use Rattle.folding.specs.Sets.{Hopeful, Lost}
@@ -27,7 +27,7 @@ unless_ok : (o : Option Fault) (r : Result Plain Fault) (q : Plain) → unless o
 unless_ok None r q e = e
 unless_ok (Some f) r q e = absurd (ok≢err q f e)
 
-pub filed_bytes : (p : Plain) (ss : List Piece) → All OfBytes ss → AllBytes (texts p) → (q : Plain) → filed p ss ≡ Ok q → AllBytes (texts q)
+pub filed_bytes : (p : Plain) (ss : List Piece) → AllByRecursion OfBytes ss → AllBytes (texts p) → (q : Plain) → filed p ss ≡ Ok q → AllBytes (texts q)
 filed_bytes p [] of bytes q e = subst (λ x. AllBytes (texts x)) (ok_same p q e) bytes
 filed_bytes p (s ∷ ss) of bytes q e =
     let more = subst AllBytes (sym (map-set (λ o. unwrap_or o []) p s.slot (Some s.text))) (All-set Bytes (texts p) s.slot s.text of.0.1 bytes) in
@@ -65,5 +65,5 @@ module _ (M M' : List ℕ → Type 0) (same : Same M M') where
   reported_by (Ok p) (Err f) bytes report = report
   reported_by (Err f) r bytes report = report
 
-  pub reported_same : (ss : List Piece) (r : Result Report Fault) → All OfBytes ss → Reported M (filed opened ss) r → Reported M' (filed opened ss) r
+  pub reported_same : (ss : List Piece) (r : Result Report Fault) → AllByRecursion OfBytes ss → Reported M (filed opened ss) r → Reported M' (filed opened ss) r
   reported_same ss r of report = reported_by (filed opened ss) r (filed_bytes opened ss of (opened_bytes 128)) report

@@ -1,6 +1,6 @@
 -- The parts of an input are made of bytes, and those of a bundle, written again, are the bundle. Assumes nothing.
 use Rattle.std.proofs.Common.{◌≡◌, ℕ, ◌+◌, ◌*◌, ◌<◌, ◌≤◌, List, [], ◌∷◌, ◌++◌, length, get_or, take, drop, sym, refl, ap, ◌∙◌, add-zero, arith}
-use Rattle.std.specs.List.{AllByRecursion as All}
+use Rattle.std.specs.List.{AllByRecursion}
 use Rattle.std.proofs.ByRecursion.{All-get_or, All-take, All-drop}
 use Rattle.std.proofs.lemmas.List.{length-drop, length-take-le, take-append-drop}
 use Rattle.folding.specs.Texts.{Bytes}
@@ -67,7 +67,7 @@ module _ (bs : List ℕ) (bytes : Bytes bs) where
   byte_tail : Bytes (after_lengths bs)
   byte_tail = All-drop IsByte (2 * count bs) (after_slots bs) byte_rest
 
-  pub byte_parts : Bytes (pattern_in bs) × All OfBytes (cut (slots_in bs) (lengths_in bs) (texts_in bs))
+  pub byte_parts : Bytes (pattern_in bs) × AllByRecursion OfBytes (cut (slots_in bs) (lengths_in bs) (texts_in bs))
   byte_parts = (
     All-take IsByte (pattern_size bs) (after_lengths bs) byte_tail,
     bytes_cut (slots_in bs) (lengths_in bs) (texts_in bs) (All-take IsByte (count bs) (body bs) byte_body) (All-drop IsByte (pattern_size bs) (after_lengths bs) byte_tail),

@@ -1,6 +1,6 @@
 // Files the strips of a bundle into a roll of 128 slots, and puts the questions to it.
 ghost use Rattle.std.specs.Prelude.{◌≡◌, ◌<◌, [], ◌∷◌, length};
-ghost use Rattle.std.specs.List.{AllByRecursion as All};
+ghost use Rattle.std.specs.List.{AllByRecursion};
 ghost use Rattle.roll.specs.Calls.{after};
 ghost use Rattle.roll.specs.Plain.{Plain};
 ghost use Rattle.roll.specs.Stands.{state, Stands};

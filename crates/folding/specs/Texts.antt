@@ -1,12 +1,12 @@
 -- A text is a list of numbers that are bytes; texts in a row are joined into one. Assumes nothing.
 use Rattle.std.specs.Prelude.{ℕ, ◌<◌, List}
-use Rattle.std.specs.List.{flat_map, AllByRecursion as All}
+use Rattle.std.specs.List.{flat_map, AllByRecursion}
 
 abbrev pub Bytes : List ℕ → Type 0
-Bytes w = All (λ b. b < 256) w
+Bytes w = AllByRecursion (λ b. b < 256) w
 
 abbrev pub AllBytes : List (List ℕ) → Type 0
-AllBytes ws = All Bytes ws
+AllBytes ws = AllByRecursion Bytes ws
 
 abbrev pub together : List (List ℕ) → List ℕ
 together ws = flat_map (λ w. w) ws

@@ -1,6 +1,6 @@
 -- A language whose places are all numbered n later. Assumes nothing.
 use Rattle.std.proofs.Common.{◌≡◌, ℕ, zero, suc, ◌+◌, ◌-◌, ◌*◌, List, [], ◌∷◌, ◌++◌, map, sym, refl, ap, ◌∙◌, subst, inl, inr, ⊎_elim, arith}
-use Rattle.std.specs.List.{flat_map, AllByRecursion as All}
+use Rattle.std.specs.List.{flat_map, AllByRecursion}
 use Rattle.std.proofs.lemmas.List.{map-append}
 use Rattle.pattern.specs.Expressions.{Expr, one, empty, seq, alt, star, plus, opt, counted}
 use Rattle.pattern.specs.Meaning.{Lang, Empty, Joined, Union, Closure, Means}
@@ -49,11 +49,11 @@ module _ {S : Type 0} (n : ℕ) where
   }
 
   module _ (L M : Lang (Place S)) (c : Moves L M) where
-    closure_to : (ws : List (List (Place S))) → All L ws → Closure M (map up (flat_map (λ u. u) ws))
+    closure_to : (ws : List (List (Place S))) → AllByRecursion L ws → Closure M (map up (flat_map (λ u. u) ws))
     closure_to [] all = closure_none M
     closure_to (w ∷ ws) all = subst (Closure M) (sym (map-append up w (flat_map (λ u. u) ws))) (closure_more M (map up w) _ (c.to w all.0) (closure_to ws all.1))
 
-    closure_back : (ws : List (List (Place S))) → All M ws → (qs : List (Place S)) × Closure L qs × (flat_map (λ u. u) ws ≡ map up qs)
+    closure_back : (ws : List (List (Place S))) → AllByRecursion M ws → (qs : List (Place S)) × Closure L qs × (flat_map (λ u. u) ws ≡ map up qs)
     closure_back [] all = ([], closure_none L, refl)
     closure_back (w ∷ ws) all =
         let (u, l, e) = c.back w all.0 in

@@ -1,6 +1,6 @@
 -- The ways in which a counted repeat is read or refused, after its first count and after its second. Assumes nothing.
 use Rattle.std.proofs.Common.{◌≡◌, ℕ, ◌+◌, ◌-◌, ◌<◌, ◌≤◌, false, leb, List, [], ◌∷◌, ◌++◌, length, get_or, take, drop, decimal, sym, refl, ap, ◌∙◌, subst, ⊎_elim, append_assoc, arith, length-append, length-drop, take-append-drop}
-use Rattle.std.specs.List.{AllByRecursion as All}
+use Rattle.std.specs.List.{AllByRecursion}
 use Rattle.std.proofs.lemmas.Fmt.{decimal_digit}
 use Rattle.std.proofs.ByRecursion.{All-append, All-get_or}
 use Rattle.std.proofs.lemmas.List.{get_or_at, get_or_append_left}
@@ -31,10 +31,10 @@ second_stuck comma b m n is no_end stuck = refl
 second_stuck ended b m n is no_end stuck = cond-false (leb m n) _ _ (lt-leb m n (⊎_elim (λ h. h) (λ le. absurd (no_end is le)) (cases_lt n m)))
 second_stuck other b m n is no_end stuck = refl
 
-digits_low : (n : ℕ) → n ≤ 32 → All (λ b. b < 58) (decimal n)
+digits_low : (n : ℕ) → n ≤ 32 → AllByRecursion (λ b. b < 58) (decimal n)
 digits_low n top =
-    ⊎_elim (λ small. subst (All (λ b. b < 58)) (sym (decimal_digit n small)) (omega arith, tt))
-    (λ two. subst (All (λ b. b < 58)) (sym (decimal_two n two (omega arith))) (omega arith, (omega arith, tt)))
+    ⊎_elim (λ small. subst (AllByRecursion (λ b. b < 58)) (sym (decimal_digit n small)) (omega arith, tt))
+    (λ two. subst (AllByRecursion (λ b. b < 58)) (sym (decimal_two n two (omega arith))) (omega arith, (omega arith, tt)))
     (cases_lt n 10)
 
 ends_so : {w : List ℕ} {m n : ℕ} → Counts w m n → (u : List ℕ) × (w ≡ u ++ 125 ∷ [])
@@ -42,7 +42,7 @@ ends_so (exactly {m} hi) = (decimal m, refl)
 ends_so (between {m} {n} le hi) = (decimal m ++ 44 ∷ decimal n, sym (append_assoc (decimal m) (44 ∷ decimal n) (125 ∷ [])))
 
 -- counts end with a brace, so none stand where no brace was read
-counts_none : (p : List ℕ) (at end : ℕ) (f : Fault) (u rest : List ℕ) → CountsStop p at f → f ≡ refused BadlyWritten end → drop at p ≡ u ++ rest → at + length u ≡ end → All (λ b. b < 58) u
+counts_none : (p : List ℕ) (at end : ℕ) (f : Fault) (u rest : List ℕ) → CountsStop p at f → f ≡ refused BadlyWritten end → drop at p ≡ u ++ rest → at + length u ≡ end → AllByRecursion (λ b. b < 58) u
     → (k m n : ℕ) → Counts (take k (drop at p)) m n → ⊥
 counts_none p at end f u rest stop is begun long low k m n counts =
     let s = stop empty opened 0 [] in

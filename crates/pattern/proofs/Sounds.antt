@@ -1,6 +1,6 @@
 -- What the automaton reads as an expression is written so. Assumes nothing.
 use Rattle.std.proofs.Common.{◌≡◌, ℕ, ◌<◌, List, [], ◌∷◌, ◌++◌, sym, refl, ap, ◌∙◌, subst, append_assoc, append-nil, arith}
-use Rattle.std.specs.List.{AllByRecursion as All}
+use Rattle.std.specs.List.{AllByRecursion}
 use Rattle.pattern.specs.Expressions.{Regex}
 use Rattle.pattern.specs.Grammar.{Written, once, nothing}
 use Rattle.pattern.specs.Automaton.{Frame, State, state, ready, after, escape, inClass, inCount, Next, dead, alive, good, bad, closed, push, step_of, finish, verdict, start}
@@ -10,7 +10,7 @@ use Rattle.pattern.proofs.Runs.{onward, verdict_is, verdict_end}
 
 -- a byte is below 256, and a text is a list of bytes
 abbrev pub Bytes : List ℕ → Type 0
-Bytes w = All (λ b. b < 256) w
+Bytes w = AllByRecursion (λ b. b < 256) w
 
 pub never : {A : Type 0} (e : Regex) (n : ℕ) → bad n ≡ good e → A
 never e n is = let z : ◌≡◌ {A = ℕ} 0 1 = cc in absurd (omega arith)

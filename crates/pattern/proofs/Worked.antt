@@ -1,6 +1,6 @@
 -- The worked examples: the automaton is run on each pattern, and its set is looked into. Assumes nothing.
 use Rattle.std.proofs.Common.{◌≡◌, ℕ, zero, suc, ◌-◌, ◌≤◌, Bool, true, ◌&&◌, ltb, List, [], ◌∷◌, ◌++◌, length, get_or, codes, refl, ap, ◌∙◌, subst, inl, inr, arith, length-append}
-use Rattle.std.specs.List.{flat_map, AllByRecursion as All}
+use Rattle.std.specs.List.{flat_map, AllByRecursion}
 use Rattle.std.proofs.lemmas.Bool.{and_parts, ltb-true}
 use Rattle.fault.specs.declared.Refusal.TheVariants.{BadlyWritten, TooManyPlaces}
 use Rattle.pattern.specs.Expressions.{Regex, byte, one, empty, seq, alt, star, plus, counted, Takes}
@@ -67,7 +67,7 @@ abc_is w (u, v, is, (u1, v1, is1, (u2, v2, is2, none, (a, va, ta)), (b, vb, tb))
     let third = vc ∙ ap (λ x. x ∷ []) (taken 99 c tc) in
     is ∙ (λ i. (is1 ∙ (λ j. (is2 ∙ (λ k. none k ++ first k)) j ++ second j)) i ++ third i)
 
-no_cab : (ws : List (List ℕ)) → All (Matches abc) ws → codes "cab" ≡ flat_map (λ u. u) ws → ⊥
+no_cab : (ws : List (List ℕ)) → AllByRecursion (Matches abc) ws → codes "cab" ≡ flat_map (λ u. u) ws → ⊥
 no_cab [] all is = not_empty _ _ is
 no_cab (x ∷ ws) all is = let z : ◌≡◌ {A = ℕ} 99 97 = ap (λ l. get_or l 0 0) (is ∙ ap (λ l. l ++ flat_map (λ u. u) ws) (abc_is x all.0)) in omega arith
 

@@ -5,7 +5,7 @@
 --   Copies n L      n members of L, one after the other
 --   Means takes e   the set of e, where `takes s` is the set of letters that the symbol s takes
 use Rattle.std.specs.Prelude.{◌≡◌, ℕ, zero, suc, ◌-◌, ◌⊎◌, List, [], ◌∷◌, ◌++◌}
-use Rattle.std.specs.List.{flat_map, AllByRecursion as All}
+use Rattle.std.specs.List.{flat_map, AllByRecursion}
 use Rattle.pattern.specs.Expressions.{Expr, one, empty, seq, alt, star, plus, opt, counted, Regex, Takes}
 
 abbrev pub Lang : Type 0 → Type 1
@@ -21,7 +21,7 @@ abbrev pub Union : {A : Type 0} → Lang A → Lang A → Lang A
 Union L M w = L w ⊎ M w
 
 abbrev pub Closure : {A : Type 0} → Lang A → Lang A
-Closure {A} L w = (ws : List (List A)) × All L ws × (w ≡ flat_map (λ u. u) ws)
+Closure {A} L w = (ws : List (List A)) × AllByRecursion L ws × (w ≡ flat_map (λ u. u) ws)
 
 abbrev pub Copies : {A : Type 0} → ℕ → Lang A → Lang A
 Copies zero L = Empty

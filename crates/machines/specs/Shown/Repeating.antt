@@ -1,7 +1,7 @@
 -- What comes first, ends, follows and stands in the members of a closure. Assumes nothing.
 use Rattle.std.specs.Prelude.{◌≡◌, ◌⊎◌, List, [], ◌∷◌, ◌++◌, refl}
 use Rattle.std.proofs.Common.{sym, ap, subst, ◌∙◌, append_assoc, append-nil, inl, inr, ⊎_elim}
-use Rattle.std.specs.List.{flat_map, AllByRecursion as All}
+use Rattle.std.specs.List.{flat_map, AllByRecursion}
 use Rattle.pattern.specs.Meaning.{Lang, Closure}
 use Rattle.machines.specs.Spellings.{First, Ends, Follows, On}
 use Rattle.machines.specs.Shown.Splits.{split_at, split_pair, split_last, split_first, not_empty}
@@ -21,7 +21,7 @@ module _ {P : Type 0} (L : Lang P) where
   pub closure_more : (u v : List P) → L u → Closure L v → Closure L (u ++ v)
   closure_more u v l (ws, all, e) = (u ∷ ws, (l, all), ap (λ x. u ++ x) e)
 
-  first_in : (p : P) (ps : List P) (ws : List (List P)) → All L ws → p ∷ ps ≡ flat ws → First L p
+  first_in : (p : P) (ps : List P) (ws : List (List P)) → AllByRecursion L ws → p ∷ ps ≡ flat ws → First L p
   first_in p ps [] all e = absurd (not_empty e)
   first_in p ps (w ∷ ws) all e =
       ⊎_elim
@@ -32,7 +32,7 @@ module _ {P : Type 0} (L : Lang P) where
   pub closure_first : (p : P) → First (Closure L) p → First L p
   closure_first p (ps, (ws, all, e)) = first_in p ps ws all e
 
-  ends_in : (p : P) (ps : List P) (ws : List (List P)) → All L ws → ps ++ (p ∷ []) ≡ flat ws → Ends L p
+  ends_in : (p : P) (ps : List P) (ws : List (List P)) → AllByRecursion L ws → ps ++ (p ∷ []) ≡ flat ws → Ends L p
   ends_in p ps [] all e = absurd (none_append ps p [] e)
   ends_in p ps (w ∷ ws) all e =
       ⊎_elim
@@ -43,7 +43,7 @@ module _ {P : Type 0} (L : Lang P) where
   pub closure_ends : (p : P) → Ends (Closure L) p → Ends L p
   closure_ends p (ps, (ws, all, e)) = ends_in p ps ws all e
 
-  follows_in : (q p : P) (us vs : List P) (ws : List (List P)) → All L ws → us ++ (q ∷ p ∷ vs) ≡ flat ws → Follows L q p ⊎ (Ends L q × First L p)
+  follows_in : (q p : P) (us vs : List P) (ws : List (List P)) → AllByRecursion L ws → us ++ (q ∷ p ∷ vs) ≡ flat ws → Follows L q p ⊎ (Ends L q × First L p)
   follows_in q p us vs [] all e = absurd (none_append us q (p ∷ vs) e)
   follows_in q p us vs (w ∷ ws) all e =
       ⊎_elim
@@ -61,7 +61,7 @@ module _ {P : Type 0} (L : Lang P) where
   follows_round q p (us, l) (vs, m) =
       (us, vs, (((us ++ (q ∷ [])) ∷ (p ∷ vs) ∷ []), (l, (m, tt)), sym (append_assoc us (q ∷ []) (p ∷ vs)) ∙ ap (λ x. (us ++ (q ∷ [])) ++ x) (sym (append-nil (p ∷ vs)))))
 
-  on_in : (p : P) (us vs : List P) (ws : List (List P)) → All L ws → us ++ (p ∷ vs) ≡ flat ws → On L p
+  on_in : (p : P) (us vs : List P) (ws : List (List P)) → AllByRecursion L ws → us ++ (p ∷ vs) ≡ flat ws → On L p
   on_in p us vs [] all e = absurd (none_append us p vs e)
   on_in p us vs (w ∷ ws) all e =
       ⊎_elim

@@ -1,7 +1,7 @@
 -- A text is meant exactly if a spelling spells it. Assumes nothing.
 use Rattle.std.specs.Prelude.{◌≡◌, ℕ, zero, suc, ◌+◌, ◌-◌, ◌*◌, List, [], ◌∷◌, ◌++◌, refl}
 use Rattle.std.proofs.Common.{sym, ap, subst, ◌∙◌, inl, inr, ⊎_elim}
-use Rattle.std.specs.List.{flat_map, AllByRecursion as All}
+use Rattle.std.specs.List.{flat_map, AllByRecursion}
 use Rattle.pattern.specs.Expressions.{Expr, one, empty, seq, alt, star, plus, opt, counted}
 use Rattle.pattern.specs.Meaning.{Lang, Empty, Joined, Union, Closure, Copies, Means}
 use Rattle.pattern.specs.Places.{places}
@@ -67,14 +67,14 @@ module _ {S A : Type 0} (takes : S → A → Type 0) where
   }
 
   module _ (L : Lang (Place S)) (M : Lang A) (c : Covers L M) where
-    closure_to : (ws : List (List A)) → All M ws → (ps : List (Place S)) × Closure L ps × Spells takes ps (flat_map (λ u. u) ws)
+    closure_to : (ws : List (List A)) → AllByRecursion M ws → (ps : List (Place S)) × Closure L ps × Spells takes ps (flat_map (λ u. u) ws)
     closure_to [] all = ([], closure_none L, tt)
     closure_to (w ∷ ws) all =
         let f = c.to w all.0 in
         let g = closure_to ws all.1 in
         (f.0 ++ g.0, closure_more L f.0 g.0 f.1 g.1, spells_append f.0 g.0 w (flat_map (λ u. u) ws) f.2 g.2)
 
-    closure_back : (pss : List (List (Place S))) (w : List A) → All L pss → Spells takes (flat_map (λ u. u) pss) w → Closure M w
+    closure_back : (pss : List (List (Place S))) (w : List A) → AllByRecursion L pss → Spells takes (flat_map (λ u. u) pss) w → Closure M w
     closure_back [] w all h = subst (Closure M) (sym (empty_back [] w refl h)) (closure_none M)
     closure_back (ps ∷ pss) w all h =
         let s = spells_split ps (flat_map (λ u. u) pss) w h in

@@ -1,5 +1,5 @@
 use Rattle.std.proofs.Common.{◌*◌, take, drop, sym, ◌∙◌, subst}
-use Rattle.std.specs.List.{AllByRecursion as All}
+use Rattle.std.specs.List.{AllByRecursion}
 use Rattle.folding.specs.Texts.{Bytes}
 use Rattle.folding.proofs.Texts.{bytes_slice}
 use Rattle.bundle.specs.Cuts.{cut}
@@ -21,6 +21,6 @@ returns c =
     let texts = c.part-4.ensures.back ∙ (λ i. drop (p i) (last i)) in
     let bytes = bytes_slice bs c.type_inv.input in
     record {
-      bytes = subst (λ x. x) (sym (λ i. Bytes (pattern i) × All OfBytes (cut (slots i) (lengths i) (texts i)))) (byte_parts bs bytes);
+      bytes = subst (λ x. x) (sym (λ i. Bytes (pattern i) × AllByRecursion OfBytes (cut (slots i) (lengths i) (texts i)))) (byte_parts bs bytes);
       whole = λ right. put_together bs bytes right ∙ sym (λ i. written (pattern i) (cut (slots i) (lengths i) (texts i)));
     }
