@@ -9,7 +9,7 @@ use Rattle.roll.specs.Calls.{refused}
 use Rattle.roll.specs.Plain.{Plain, texts, marks}
 use Rattle.roll.specs.Refusals.{Call, filing, verdict, refusal}
 use Rattle.roll.specs.Stands.{State, Stands, Holds}
-use Rattle.roll.specs.Steps.{refusalAt, Does, Files}
+use Rattle.roll.specs.Steps.{refusal_at, Does, Files}
 use Rattle.roll.specs.declared.strip.Returned.{Returned}
 use Rattle.roll.specs.declared.strip.Strip.{Strip}
 use Rattle.roll.proofs.Standing.{stands_refusal, stands_tables}
@@ -19,7 +19,7 @@ use Rattle.bundle.specs.Outcome.{unless, filed}
 
 module _ {L : Type 0} (leg : List ℕ → L) (M : List ℕ → Type 0) where
   -- the lent tables are those of 128 slots
-  pub at_128 : (s : State L) (p : Plain) → length p ≡ 128 → Stands leg s p → (c : Call) → refusal (marks p) c 256 256 ≡ refusalAt s c
+  pub at_128 : (s : State L) (p : Plain) → length p ≡ 128 → Stands leg s p → (c : Call) → refusal (marks p) c 256 256 ≡ refusal_at s c
   at_128 s p wide stands c =
       let same = length-map p (λ o. unwrap_or o []) in
       let legs : length s.legs ≡ 256 = let long = ap length stands.legs ∙ length_cells leg (texts p) in omega arith in

@@ -48,7 +48,7 @@ for_of e t f = record {
 
 module _ (L M : Lang (Place Symbol)) (a b r : Tables) (l : TablesFor L a) (m : TablesFor M b) where
   pub joined_tables : Member L → Member M → Then a b r → TablesFor (Joined L M) r
-  joined_tables someL some_m by = record {
+  joined_tables some_l some_m by = record {
     first = λ p. (
       λ h.
           ⊎_elim
@@ -70,7 +70,7 @@ module _ (L M : Lang (Place Symbol)) (a b r : Tables) (l : TablesFor L a) (m : T
           (λ x. let (s, u, f) = (l.follow q p low high).0 x in (s, u, follows_left L M (q, s) (p, u) some_m f))
           (⊎_elim
           (λ x. let (s, f) = (l.ends q low).0 x.0 in let (u, g) = (m.first p).0 x.1 in (s, u, follows_across L M (q, s) (p, u) f g))
-          (λ x. let (s, u, f) = (m.follow q p low high).0 x.1 in (s, u, follows_right L M (q, s) (p, u) someL f)))
+          (λ x. let (s, u, f) = (m.follow q p low high).0 x.1 in (s, u, follows_right L M (q, s) (p, u) some_l f)))
           ((by.rows q p high).0 h),
       λ f.
           (by.rows q p high).1
@@ -85,7 +85,7 @@ module _ (L M : Lang (Place Symbol)) (a b r : Tables) (l : TablesFor L a) (m : T
       λ h.
           ⊎_elim
           (λ x. let (s, o, k) = (l.takes c p byte).0 x in (s, joined_on_left L M (p, s) some_m o, k))
-          (λ x. let (s, o, k) = (m.takes c p byte).0 x in (s, joined_on_right L M (p, s) someL o, k))
+          (λ x. let (s, o, k) = (m.takes c p byte).0 x in (s, joined_on_right L M (p, s) some_l o, k))
           ((by.takes c p byte).0 h),
       λ f.
           (by.takes c p byte).1
@@ -97,7 +97,7 @@ module _ (L M : Lang (Place Symbol)) (a b r : Tables) (l : TablesFor L a) (m : T
     ends = λ p low. (
       λ h.
           ⊎_elim
-          (λ x. let (s, f) = (m.ends p low).0 x.1 in (s, ends_right L M (p, s) someL f))
+          (λ x. let (s, f) = (m.ends p low).0 x.1 in (s, ends_right L M (p, s) some_l f))
           (λ x. let (s, f) = (l.ends p low).0 x.1 in (s, ends_left L M (p, s) (m.start.0 x.0) f))
           ((by.accepts p).0 h),
       λ f.

@@ -1,8 +1,8 @@
 -- What the tests on a byte tell of it. Assumes nothing.
 use Rattle.std.proofs.Common.{◌≡◌, ℕ, ◌+◌, ◌-◌, ◌<◌, ◌≤◌, true, cond, ◌&&◌, eqb, leb, sym, ap, ◌∙◌, ⊎_elim, arith}
 use Rattle.std.proofs.lemmas.Bool.{true≢false, eqb-true, le-leb, leb-true, cond_both, cond-true, or_cases, and_parts, and_from}
-use Rattle.pattern.specs.Characters.{Kind, bar, times, add, query, open', close', square, unsquare, brace, unbrace, dot, backslash, plain, kind, hasOffice, escapable, ClassKind, ends, slash, hyphen, barred, itself, classKind}
-use Rattle.pattern.specs.Automaton.{CountKind, digit, comma, ended, other, countKind}
+use Rattle.pattern.specs.Characters.{Kind, bar, times, add, query, open', close', square, unsquare, brace, unbrace, dot, backslash, plain, kind, has_office, escapable, ClassKind, ends, slash, hyphen, barred, itself, class_kind}
+use Rattle.pattern.specs.Automaton.{CountKind, digit, comma, ended, other, count_kind}
 
 -- the byte that has this office
 abbrev pub Has : Kind → ℕ → Type 0
@@ -29,7 +29,7 @@ has b =
     (kind_cond b 40 open' _ (λ e. e) (kind_cond b 41 close' _ (λ e. e) (kind_cond b 91 square _ (λ e. e) (kind_cond b 93 unsquare _ (λ e. e)
     (kind_cond b 123 brace _ (λ e. e) (kind_cond b 125 unbrace _ (λ e. e) (kind_cond b 46 dot _ (λ e. e) (kind_cond b 92 backslash plain (λ e. e) tt)))))))))))
 
-office_low : (k : Kind) (b : ℕ) → Has k b → hasOffice k ≡ true → b ≤ 125
+office_low : (k : Kind) (b : ℕ) → Has k b → has_office k ≡ true → b ≤ 125
 office_low bar b h e = omega arith
 office_low times b h e = omega arith
 office_low add b h e = omega arith
@@ -61,8 +61,8 @@ InClass itself b = Unit {0}
 class_cond : (b c : ℕ) (k l : ClassKind) → (b ≡ c → InClass k b) → InClass l b → InClass (cond (eqb b c) k l) b
 class_cond b c k l is rest = cond_both (eqb b c) k l (λ x. InClass x b) (λ e. is (eqb-true b c e)) (λ e. rest)
 
-pub in_class : (b : ℕ) → InClass (classKind b) b
-in_class b = class_cond b 93 ends _ (λ e. e) (class_cond b 92 slash _ (λ e. e) (class_cond b 45 hyphen _ (λ e. e) (class_cond b 91 barred _ (λ e. tt) (class_cond b 94 barred itself (λ e. tt) tt))))
+pub in_class_lem : (b : ℕ) → InClass (class_kind b) b
+in_class_lem b = class_cond b 93 ends _ (λ e. e) (class_cond b 92 slash _ (λ e. e) (class_cond b 45 hyphen _ (λ e. e) (class_cond b 91 barred _ (λ e. tt) (class_cond b 94 barred itself (λ e. tt) tt))))
 
 -- the byte that has this office inside a counted repeat
 abbrev pub InCount : CountKind → ℕ → Type 0
@@ -71,13 +71,13 @@ InCount comma b = b ≡ 44
 InCount ended b = b ≡ 125
 InCount other b = Unit {0}
 
-pub in_count : (b : ℕ) → InCount (countKind b) b
-in_count b =
+pub in_count_lem : (b : ℕ) → InCount (count_kind b) b
+in_count_lem b =
     cond_both (leb 48 b && leb b 57) (digit (b - 48)) _ (λ x. InCount x b)
     (λ e. let p = and_parts (leb 48 b) (leb b 57) e in let lo = leb-true 48 b p.0 in let hi = leb-true b 57 p.1 in (omega arith, omega arith))
     (λ e. cond_both (eqb b 44) comma _ (λ x. InCount x b) (eqb-true b 44) (λ _. cond_both (eqb b 125) ended other (λ x. InCount x b) (eqb-true b 125) (λ _. tt)))
 
-pub digit_kind : (k : ℕ) → k < 10 → countKind (48 + k) ≡ digit k
+pub digit_kind : (k : ℕ) → k < 10 → count_kind (48 + k) ≡ digit k
 digit_kind k h =
     cond-true (leb 48 (48 + k) && leb (48 + k) 57) _ _ (and_from _ _ (le-leb 48 (48 + k) (omega arith)) (le-leb (48 + k) 57 (omega arith)))
     ∙ ap digit (let e : 48 + k - 48 ≡ k = omega arith in e)

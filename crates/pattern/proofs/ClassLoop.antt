@@ -9,9 +9,9 @@ use Rattle.pattern.specs.declared.class.Progress.TheVariants.{Empty}
 use Rattle.pattern.specs.declared.class.Taken.TheVariants.{Inside, Ended, Refused}
 use Rattle.pattern.specs.Expressions.{Range, one}
 use Rattle.pattern.specs.Grammar.{Members, none}
-use Rattle.pattern.specs.Characters.{classKind}
-use Rattle.pattern.specs.Automaton.{Frame, state, opened, after, bad, inClass, fresh, classNext, ofClass, inside, verdict}
-use Rattle.pattern.specs.Classes.{state_of, Suits, Follows, doneBy, ClassHeard, ClassStops, ClassRefused}
+use Rattle.pattern.specs.Characters.{class_kind}
+use Rattle.pattern.specs.Automaton.{Frame, state, opened, after, bad, in_class, fresh, class_next, of_class, inside, verdict}
+use Rattle.pattern.specs.Classes.{state_of, Suits, Follows, done_by, ClassHeard, ClassStops, ClassRefused}
 use Rattle.pattern.specs.Refusals.{refused}
 use Rattle.pattern.proofs.Seen.{Class}
 use Rattle.pattern.proofs.ClassSeen.{class_goes, Goes}
@@ -33,11 +33,11 @@ pub record Far (p : List ℕ) (at i : ℕ) (progress : Progress) (E : List Range
   pub holds : E ranges
   pub class : Class ranges (state_of progress) (take (i - at) (drop at p))
   pub over : (fr : Frame) (d : ℕ) (ctx : List Frame) (w : List ℕ)
-      → verdict (state (inClass [] fresh) fr d ctx) (take (i - at) (drop at p) ++ w) ≡ verdict (state (inClass ranges (state_of progress)) fr d ctx) w
+      → verdict (state (in_class [] fresh) fr d ctx) (take (i - at) (drop at p) ++ w) ≡ verdict (state (in_class ranges (state_of progress)) fr d ctx) w
   pub open' : Open p at i
 
 runs : (p : List ℕ) (at i : ℕ) (progress : Progress) (E : List Range → Type 0) (far : Far p at i progress E) (fr : Frame) (d : ℕ) (ctx : List Frame)
-    → verdict (state (inClass [] fresh) fr d ctx) (drop at p) ≡ verdict (state (inClass far.ranges (state_of progress)) fr d ctx) (drop i p)
+    → verdict (state (in_class [] fresh) fr d ctx) (drop at p) ≡ verdict (state (in_class far.ranges (state_of progress)) fr d ctx) (drop i p)
 runs p at i progress E far fr d ctx = ap (verdict _) (split_at p at i far.forward) ∙ far.over fr d ctx (drop i p)
 
 pub far_none : (p : List ℕ) (at : ℕ) (E : List Range → Type 0) → E [] → Far p at at Empty E
@@ -49,7 +49,7 @@ far_none p at E empty =
       suits = refl;
       holds = empty;
       class = subst (λ n. Class [] fresh (take n (drop at p))) none_yet ([], [], refl, none, refl);
-      over = λ fr d ctx w. ap (λ n. verdict (state (inClass [] fresh) fr d ctx) (take n (drop at p) ++ w)) (sym none_yet);
+      over = λ fr d ctx w. ap (λ n. verdict (state (in_class [] fresh) fr d ctx) (take n (drop at p) ++ w)) (sym none_yet);
       open' = λ n rs lt _ _ _. omega arith;
     }
 
@@ -72,24 +72,24 @@ class_none p at i f none_yet stop is n rs members some inside' bracket =
     none_yet n rs (omega (arith, length-drop (at + n + 1) p, s.within, ap (λ x. x.place) is)) members some bracket
 
 module _ (p : List ℕ) (at i : ℕ) (old : Progress) (E : List Range → Type 0) (lt : i < length p) (small : get_or p i 0 < 256) (far : Far p at i old E) where
-  goes : Goes (classNext (classKind (get_or p i 0)) (get_or p i 0) far.ranges (state_of old)) (take (i - at) (drop at p)) (get_or p i 0)
+  goes : Goes (class_next (class_kind (get_or p i 0)) (get_or p i 0) far.ranges (state_of old)) (take (i - at) (drop at p)) (get_or p i 0)
   goes = class_goes (get_or p i 0) small far.ranges (state_of old) _ far.class
 
-  done : Done (classNext (classKind (get_or p i 0)) (get_or p i 0) far.ranges (state_of old)) (far.ranges ++ doneBy old (get_or p i 0))
+  done : Done (class_next (class_kind (get_or p i 0)) (get_or p i 0) far.ranges (state_of old)) (far.ranges ++ done_by old (get_or p i 0))
   done = next_done old (get_or p i 0) far.ranges
 
   -- a class that ends here would be read, and the automaton is still inside one
   goes_on : (ms : List Range) → Members (take (i - at) (drop at p)) ms → 0 < length ms → get_or p i 0 ≡ 93 → (rs : List Range) (new : Progress)
-      → classNext (classKind (get_or p i 0)) (get_or p i 0) far.ranges (state_of old) ≡ inside rs (state_of new) → ⊥
+      → class_next (class_kind (get_or p i 0)) (get_or p i 0) far.ranges (state_of old) ≡ inside rs (state_of new) → ⊥
   goes_on ms members some bracket rs new is =
       let v = take (i - at) (drop at p) in
       let ended = class_runs opened 0 [] members some [] ∙ verdict_end (state (after (one ms)) opened 0 []) in
       let not_ended =
-      far.over opened 0 [] (93 ∷ []) ∙ ap (λ b. verdict (state (inClass far.ranges (state_of old)) opened 0 []) (b ∷ [])) (sym bracket)
-      ∙ verdict_alive _ (state (inClass rs (state_of new)) opened 0 []) (get_or p i 0) [] (ap (λ n. ofClass n opened 0 []) is) ∙ verdict_end (state (inClass rs (state_of new)) opened 0 []) in
+      far.over opened 0 [] (93 ∷ []) ∙ ap (λ b. verdict (state (in_class far.ranges (state_of old)) opened 0 []) (b ∷ [])) (sym bracket)
+      ∙ verdict_alive _ (state (in_class rs (state_of new)) opened 0 []) (get_or p i 0) [] (ap (λ n. of_class n opened 0 []) is) ∙ verdict_end (state (in_class rs (state_of new)) opened 0 []) in
       never _ 0 (sym not_ended ∙ ended)
 
-  pub far_more : (new : Progress) (E' : List Range → Type 0) → ((rs : List Range) → E rs → E' (rs ++ doneBy old (get_or p i 0))) → Follows old (get_or p i 0) Inside new → Far p at (i + 1) new E'
+  pub far_more : (new : Progress) (E' : List Range → Type 0) → ((rs : List Range) → E rs → E' (rs ++ done_by old (get_or p i 0))) → Follows old (get_or p i 0) Inside new → Far p at (i + 1) new E'
   far_more new E' told follows =
       let (rs, is, suits) = follows far.ranges far.suits in
       let le = far.forward in
@@ -97,24 +97,24 @@ module _ (p : List ℕ) (at i : ℕ) (old : Progress) (E : List Range → Type 0
         forward = omega arith;
         ranges = rs;
         suits = suits;
-        holds = subst E' (sym (subst (λ n. Done n (far.ranges ++ doneBy old (get_or p i 0))) is done)) (told far.ranges far.holds);
+        holds = subst E' (sym (subst (λ n. Done n (far.ranges ++ done_by old (get_or p i 0))) is done)) (told far.ranges far.holds);
         class = subst (Class rs (state_of new)) (sym (one_more p at i le lt)) (subst (λ n. Goes n (take (i - at) (drop at p)) (get_or p i 0)) is goes);
         over = λ fr d ctx w.
-            ap (λ l. verdict (state (inClass [] fresh) fr d ctx) (l ++ w)) (one_more p at i le lt) ∙ ap (verdict _) (append_assoc (take (i - at) (drop at p)) (get_or p i 0 ∷ []) w)
-            ∙ far.over fr d ctx (get_or p i 0 ∷ w) ∙ verdict_alive _ (state (inClass rs (state_of new)) fr d ctx) (get_or p i 0) w (ap (λ n. ofClass n fr d ctx) is);
+            ap (λ l. verdict (state (in_class [] fresh) fr d ctx) (l ++ w)) (one_more p at i le lt) ∙ ap (verdict _) (append_assoc (take (i - at) (drop at p)) (get_or p i 0 ∷ []) w)
+            ∙ far.over fr d ctx (get_or p i 0 ∷ w) ∙ verdict_alive _ (state (in_class rs (state_of new)) fr d ctx) (get_or p i 0) w (ap (λ n. of_class n fr d ctx) is);
         open' = λ n ms small' members some bracket.
             ⊎_elim (λ (before : n < i - at). far.open' n ms before members some bracket)
             (λ (ge : i - at ≤ n). let here : n ≡ i - at = omega arith in goes_on ms (subst (λ k. Members (take k (drop at p)) ms) here members) some (let place : at + n ≡ i = omega arith in ap (λ k. get_or p k 0) (sym place) ∙ bracket) rs new is)
             (cases_lt n (i - at));
       }
 
-  pub far_ended : (new : Progress) (E' : List Range → Type 0) → ((rs : List Range) → E rs → E' (rs ++ doneBy old (get_or p i 0))) → Follows old (get_or p i 0) Ended new → ClassHeard p at i E'
+  pub far_ended : (new : Progress) (E' : List Range → Type 0) → ((rs : List Range) → E rs → E' (rs ++ done_by old (get_or p i 0))) → Follows old (get_or p i 0) Ended new → ClassHeard p at i E'
   far_ended new E' told follows =
       let (rs, is) = follows far.ranges far.suits in
       let (bracket, some, ms) = subst (λ n. Goes n (take (i - at) (drop at p)) (get_or p i 0)) is goes in
       record {
         read = record { forward = far.forward; within = lt; bracket = bracket; members = rs; some = some; written = ms };
-        holds = subst E' (sym (subst (λ n. Done n (far.ranges ++ doneBy old (get_or p i 0))) is done)) (told far.ranges far.holds);
+        holds = subst E' (sym (subst (λ n. Done n (far.ranges ++ done_by old (get_or p i 0))) is done)) (told far.ranges far.holds);
       }
 
   pub far_refused : (new : Progress) (f : Fault) → Follows old (get_or p i 0) Refused new → f ≡ refused BadlyWritten i → ClassRefused p at f
@@ -123,7 +123,7 @@ module _ (p : List ℕ) (at i : ℕ) (old : Progress) (E : List Range → Type 0
       stop : ClassStops p at f
       stop fr d ctx =
           stopped p f i _ is (omega arith)
-          (runs p at i old E far fr d ctx ∙ stops_at p i _ (omega arith) refl (λ _. ap (λ n. ofClass n fr d ctx) (follows far.ranges far.suits)))
+          (runs p at i old E far fr d ctx ∙ stops_at p i _ (omega arith) refl (λ _. ap (λ n. of_class n fr d ctx) (follows far.ranges far.suits)))
 
 pub far_all : (p : List ℕ) (at i : ℕ) (old : Progress) (E : List Range → Type 0) (f : Fault) → Far p at i old E → i ≡ length p → f ≡ refused BadlyWritten (length p) → ClassRefused p at f
 far_all p at i old E f far all is = record { none = class_none p at i f far.open' stop (is ∙ ap (refused BadlyWritten) (sym all)); stops = stop }
@@ -131,4 +131,4 @@ far_all p at i old E f far all is = record { none = class_none p at i f far.open
     stop : ClassStops p at f
     stop fr d ctx =
         stopped p f (length p) _ is (omega arith)
-        (runs p at i old E far fr d ctx ∙ ap (λ n. verdict (state (inClass far.ranges (state_of old)) fr d ctx) (drop n p)) all ∙ stops_at p (length p) _ (omega arith) refl (λ lt. absurd (omega arith)))
+        (runs p at i old E far fr d ctx ∙ ap (λ n. verdict (state (in_class far.ranges (state_of old)) fr d ctx) (drop n p)) all ∙ stops_at p (length p) _ (omega arith) refl (λ lt. absurd (omega arith)))

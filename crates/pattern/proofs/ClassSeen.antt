@@ -2,23 +2,23 @@
 use Rattle.std.proofs.Common.{◌≡◌, ℕ, ◌<◌, ◌&&◌, leb, List, [], ◌∷◌, ◌++◌, length, sym, refl, ap, ◌∙◌, subst, append_assoc, append-nil, arith}
 use Rattle.std.proofs.lemmas.Bool.{cond_both, leb-true, and_parts}
 use Rattle.std.proofs.lemmas.List.{length-append}
-use Rattle.pattern.specs.Characters.{ClassKind, ends, slash, hyphen, barred, itself, classKind, escapable}
+use Rattle.pattern.specs.Characters.{ClassKind, ends, slash, hyphen, barred, itself, class_kind, escapable}
 use Rattle.pattern.specs.Expressions.{Range}
 use Rattle.pattern.specs.Grammar.{ClassByte, bare, escaped, single, range, Members, more}
-use Rattle.pattern.specs.Automaton.{ClassState, fresh, inEscape, member, dashed, dashedEscape, ClassNext, noClass, inside, finished, classNext}
-use Rattle.pattern.proofs.Chars.{InClass as Told, in_class}
+use Rattle.pattern.specs.Automaton.{ClassState, fresh, in_escape, member, dashed, dashed_escape, ClassNext, no_class, inside, finished, class_next}
+use Rattle.pattern.proofs.Chars.{InClass as Told, in_class_lem}
 use Rattle.pattern.proofs.Seen.{InClass, Class}
 
 -- what the class is after one byte more: still open, or whole but for its last byte
 abbrev pub Goes : ClassNext → List ℕ → ℕ → Type 0
-Goes noClass t b = Unit {0}
+Goes no_class t b = Unit {0}
 Goes (inside rs c) t b = Class rs c (t ++ b ∷ [])
 Goes (finished rs) t b = (b ≡ 93) × (0 < length rs) × Members t rs
 
 push_some : (rs : List Range) (r : Range) → 0 < length (rs ++ r ∷ [])
 push_some rs r = rw length-append (omega arith)
 
-goes : (b : ℕ) → b < 256 → (k : ClassKind) → classKind b ≡ k → Told k b → (rs : List Range) (c : ClassState) (v y : List ℕ) → Members v rs → InClass c y → Goes (classNext k b rs c) (v ++ y) b
+goes : (b : ℕ) → b < 256 → (k : ClassKind) → class_kind b ≡ k → Told k b → (rs : List Range) (c : ClassState) (v y : List ℕ) → Members v rs → InClass c y → Goes (class_next k b rs c) (v ++ y) b
 goes b small ends is told [] fresh v y ms part = tt
 goes b small ends is told (r ∷ rs) fresh v y ms part = (told, omega arith, subst (λ l. Members l (r ∷ rs)) (sym (ap (λ l. v ++ l) part ∙ append-nil v)) ms)
 goes b small slash is told rs fresh v y ms part = (v, 92 ∷ [], append_assoc v y _ ∙ ap (λ l. v ++ l) ((λ i. part i ++ told i ∷ [])), ms, refl)
@@ -41,16 +41,16 @@ goes b small itself is told rs (dashed a) v y ms part =
     cond_both (leb a b) _ _ (λ n. Goes n (v ++ y) b)
     (λ e. (v ++ (part.0 ++ 45 ∷ (b ∷ [])), [], append_assoc v y _ ∙ ap (λ l. v ++ l) (ap (λ l. l ++ b ∷ []) part.1 ∙ append_assoc part.0 _ _) ∙ sym (append-nil _), more ms (range part.2 (bare small is) (leb-true a b e)), refl))
     (λ _. tt)
-goes b small k is told rs inEscape v y ms part =
+goes b small k is told rs in_escape v y ms part =
     cond_both (escapable b) _ _ (λ n. Goes n (v ++ y) b)
     (λ e. (v, y ++ b ∷ [], append_assoc v y _, ms, subst (λ l. ClassByte (l ++ b ∷ []) b) (sym part) (escaped e)))
     (λ _. tt)
-goes b small k is told rs (dashedEscape a) v y ms part =
+goes b small k is told rs (dashed_escape a) v y ms part =
     cond_both (escapable b && leb a b) _ _ (λ n. Goes n (v ++ y) b)
     (λ e.
     let both = and_parts _ _ e in
     (v ++ (part.0 ++ 45 ∷ (92 ∷ (b ∷ []))), [], append_assoc v y _ ∙ ap (λ l. v ++ l) (ap (λ l. l ++ b ∷ []) part.1 ∙ append_assoc part.0 _ _) ∙ sym (append-nil _), more ms (range part.2 (escaped both.0) (leb-true a b both.1)), refl))
     (λ _. tt)
 
-pub class_goes : (b : ℕ) → b < 256 → (rs : List Range) (c : ClassState) (t : List ℕ) → Class rs c t → Goes (classNext (classKind b) b rs c) t b
-class_goes b small rs c t (v, y, is, ms, part) = subst (λ l. Goes (classNext (classKind b) b rs c) l b) (sym is) (goes b small (classKind b) refl (in_class b) rs c v y ms part)
+pub class_goes : (b : ℕ) → b < 256 → (rs : List Range) (c : ClassState) (t : List ℕ) → Class rs c t → Goes (class_next (class_kind b) b rs c) t b
+class_goes b small rs c t (v, y, is, ms, part) = subst (λ l. Goes (class_next (class_kind b) b rs c) l b) (sym is) (goes b small (class_kind b) refl (in_class_lem b) rs c v y ms part)

@@ -6,16 +6,16 @@ use Rattle.pattern.specs.declared.class.Progress.{Progress}
 use Rattle.pattern.specs.declared.class.Progress.TheVariants.{Empty, Between, Member, Dash, Escape, DashEscape}
 use Rattle.pattern.specs.declared.class.Taken.{Taken}
 use Rattle.pattern.specs.declared.class.Taken.TheVariants.{Inside, Ended}
-use Rattle.pattern.specs.Characters.{ClassKind, ends, slash, hyphen, barred, itself, isItself, classKind, escapable}
+use Rattle.pattern.specs.Characters.{ClassKind, ends, slash, hyphen, barred, itself, is_itself, class_kind, escapable}
 use Rattle.pattern.specs.Expressions.{Range}
-use Rattle.pattern.specs.Automaton.{classNext, fresh, member, dashed}
+use Rattle.pattern.specs.Automaton.{class_next, fresh, member, dashed}
 use Rattle.pattern.specs.Classes.{Follows}
 
 push_some : (rs : List Range) (r : Range) → 0 < length (rs ++ r ∷ [])
 push_some rs r = rw length-append (omega arith)
 
 -- a byte with no office in a class
-pub itself_is : (k : ClassKind) → true ≡ isItself k → k ≡ itself
+pub itself_is : (k : ClassKind) → true ≡ is_itself k → k ≡ itself
 itself_is ends e = absurd (true≢false e)
 itself_is slash e = absurd (true≢false e)
 itself_is hyphen e = absurd (true≢false e)
@@ -39,14 +39,14 @@ empty_slash rs none = (rs, refl, tt)
 pub member_slash : (a : ℕ) → Follows (Member a) 92 Inside Escape
 member_slash a rs _ = (rs ++ (a, a) ∷ [], refl, tt)
 
-pub empty_byte : (b : ℕ) → classKind b ≡ itself → Follows Empty b Inside (Member b)
-empty_byte b is rs _ = (rs, ap (λ k. classNext k b rs fresh) is, tt)
+pub empty_byte : (b : ℕ) → class_kind b ≡ itself → Follows Empty b Inside (Member b)
+empty_byte b is rs _ = (rs, ap (λ k. class_next k b rs fresh) is, tt)
 
-pub between_byte : (b : ℕ) → classKind b ≡ itself → Follows Between b Inside (Member b)
-between_byte b is rs _ = (rs, ap (λ k. classNext k b rs fresh) is, tt)
+pub between_byte : (b : ℕ) → class_kind b ≡ itself → Follows Between b Inside (Member b)
+between_byte b is rs _ = (rs, ap (λ k. class_next k b rs fresh) is, tt)
 
-pub member_byte : (a b : ℕ) → classKind b ≡ itself → Follows (Member a) b Inside (Member b)
-member_byte a b is rs _ = (rs ++ (a, a) ∷ [], ap (λ k. classNext k b rs (member a)) is, tt)
+pub member_byte : (a b : ℕ) → class_kind b ≡ itself → Follows (Member a) b Inside (Member b)
+member_byte a b is rs _ = (rs ++ (a, a) ∷ [], ap (λ k. class_next k b rs (member a)) is, tt)
 
 pub member_dash : (a : ℕ) → Follows (Member a) 45 Inside (Dash a)
 member_dash a rs _ = (rs, refl, tt)
@@ -54,8 +54,8 @@ member_dash a rs _ = (rs, refl, tt)
 pub dash_slash : (a : ℕ) → a ≤ 125 → Follows (Dash a) 92 Inside (DashEscape a)
 dash_slash a low rs _ = (rs, cond-true (leb a 125) _ _ (le-leb a 125 low), tt)
 
-pub dash_byte : (a b : ℕ) → classKind b ≡ itself → a ≤ b → Follows (Dash a) b Inside Between
-dash_byte a b is le rs _ = (rs ++ (a, b) ∷ [], ap (λ k. classNext k b rs (dashed a)) is ∙ cond-true (leb a b) _ _ (le-leb a b le), push_some rs (a, b))
+pub dash_byte : (a b : ℕ) → class_kind b ≡ itself → a ≤ b → Follows (Dash a) b Inside Between
+dash_byte a b is le rs _ = (rs ++ (a, b) ∷ [], ap (λ k. class_next k b rs (dashed a)) is ∙ cond-true (leb a b) _ _ (le-leb a b le), push_some rs (a, b))
 
 pub escape_byte : (b : ℕ) → escapable b ≡ true → Follows Escape b Inside (Member b)
 escape_byte b is rs _ = (rs, cond-true (escapable b) _ _ is, tt)

@@ -5,7 +5,7 @@ use Rattle.pattern.specs.Characters.{escapable}
 use Rattle.pattern.specs.Expressions.{Regex, one, byte, empty, alt}
 use Rattle.pattern.specs.Grammar.{Repeated, by_star, by_plus, by_opt, by_count, Atom, a_plain, an_escape, a_dot, a_class, a_group, Piece, once, repeated, Branch, nothing, followed, Alternatives, lone, also, Written, OneReading}
 use Rattle.pattern.specs.Automaton.{Frame, frame, Sofar, first, later, state, ready, after, escape, opened, push, closed, begin, good, verdict, start}
-use Rattle.pattern.proofs.Runs.{NoRepeat, isRepeat, settles, verdict_alive, verdict_end}
+use Rattle.pattern.proofs.Runs.{NoRepeat, is_repeat, settles, verdict_alive, verdict_end}
 use Rattle.pattern.proofs.ClassRuns.{class_runs}
 use Rattle.pattern.proofs.CountRuns.{counts_run}
 
@@ -31,7 +31,7 @@ module _ (G : List ℕ → Regex → Type 0) (d : ℕ) (group_runs : (v : List �
   piece_runs (repeated {v = v} {w = u} a r) fr ctx w h = ap (verdict _) (append_assoc v u w) ∙ atom_runs a fr ctx (u ++ w) ∙ repeat_runs r fr d ctx w
 
   atom_no_repeat : {v : List ℕ} {e : Regex} → Atom G v e → (w : List ℕ) → NoRepeat (v ++ w)
-  atom_no_repeat (a_plain small is) w = ap isRepeat is
+  atom_no_repeat (a_plain small is) w = ap is_repeat is
   atom_no_repeat (an_escape is) w = refl
   atom_no_repeat a_dot w = refl
   atom_no_repeat (a_class ms some) w = refl

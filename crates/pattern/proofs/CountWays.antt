@@ -9,23 +9,23 @@ use Rattle.fault.specs.declared.Fault.{Fault}
 use Rattle.fault.specs.declared.Refusal.TheVariants.{BadlyWritten}
 use Rattle.pattern.specs.Expressions.{empty}
 use Rattle.pattern.specs.Grammar.{Counts, exactly, between}
-use Rattle.pattern.specs.Automaton.{state, inCount, awaiting, digits, CountKind, digit, comma, ended, other, noCount, least, most, canGoOn, countNext, ofCount, opened, bad, verdict}
+use Rattle.pattern.specs.Automaton.{state, in_count, awaiting, digits, CountKind, digit, comma, ended, other, no_count, least, most, can_go_on, count_next, of_count, opened, bad, verdict}
 use Rattle.pattern.specs.Refusals.{Stops, refused}
 use Rattle.pattern.specs.Repeats.{NumberRead, NumberRefused, CountsRead, CountsStop, CountsRefused}
-use Rattle.pattern.proofs.Chars.{InCount, in_count}
+use Rattle.pattern.proofs.Chars.{InCount, in_count_lem}
 use Rattle.pattern.proofs.CountRuns.{counts_run, decimal_two}
 use Rattle.pattern.proofs.Faults.{unread}
 use Rattle.pattern.proofs.Slices.{drop_is, moves, stops_at, stopped}
 
 -- after the first count only a brace or a comma goes on
-first_stuck : (k : CountKind) (b n : ℕ) → InCount k b → (b ≡ 125 → ⊥) → (b ≡ 44 → ⊥) → ((j : ℕ) → k ≡ digit j → canGoOn 0 n j ≡ false) → countNext k (digits least n) ≡ noCount
+first_stuck : (k : CountKind) (b n : ℕ) → InCount k b → (b ≡ 125 → ⊥) → (b ≡ 44 → ⊥) → ((j : ℕ) → k ≡ digit j → can_go_on 0 n j ≡ false) → count_next k (digits least n) ≡ no_count
 first_stuck (digit j) b n is no_end no_comma stuck = cond-false _ _ _ (stuck j refl)
 first_stuck comma b n is no_end no_comma stuck = absurd (no_comma is)
 first_stuck ended b n is no_end no_comma stuck = absurd (no_end is)
 first_stuck other b n is no_end no_comma stuck = refl
 
 -- after the second only a brace, if the most is not below the least
-second_stuck : (k : CountKind) (b m n : ℕ) → InCount k b → (b ≡ 125 → m ≤ n → ⊥) → ((j : ℕ) → k ≡ digit j → canGoOn m n j ≡ false) → countNext k (digits (most m) n) ≡ noCount
+second_stuck : (k : CountKind) (b m n : ℕ) → InCount k b → (b ≡ 125 → m ≤ n → ⊥) → ((j : ℕ) → k ≡ digit j → can_go_on m n j ≡ false) → count_next k (digits (most m) n) ≡ no_count
 second_stuck (digit j) b m n is no_end stuck = cond-false _ _ _ (stuck j refl)
 second_stuck comma b m n is no_end stuck = refl
 second_stuck ended b m n is no_end stuck = cond-false (leb m n) _ _ (lt-leb m n (⊎_elim (λ h. h) (λ le. absurd (no_end is le)) (cases_lt n m)))
@@ -70,7 +70,7 @@ module _ (p : List ℕ) (at : ℕ) where
       stop e fr d ctx =
           stopped p f end _ is num.within
           (num.runs least refl e fr d ctx
-          ∙ stops_at p end _ num.within refl (λ lt. ap (λ n. ofCount n e fr d ctx) (first_stuck _ _ m (in_count (get_or p end 0)) (no_end lt) (no_comma lt) (λ j told. num.stuck j told lt))))
+          ∙ stops_at p end _ num.within refl (λ lt. ap (λ n. of_count n e fr d ctx) (first_stuck _ _ m (in_count_lem (get_or p end 0)) (no_end lt) (no_comma lt) (λ j told. num.stuck j told lt))))
 
   pub one_count : (m end : ℕ) → NumberRead p at 0 m end → end < length p → get_or p end 0 ≡ 125 → CountsRead p at m m (end + 1)
   one_count m end num lt is = record {
@@ -89,7 +89,7 @@ module _ (p : List ℕ) (at : ℕ) where
 
       stop : CountsStop p at f
       stop e fr d ctx =
-          subst (Stops p f) (sym (num.runs least refl e fr d ctx ∙ moves p end 44 _ (state (inCount e (awaiting (most m))) fr d ctx) lt is refl)) (number.stops (most m) refl e fr d ctx)
+          subst (Stops p f) (sym (num.runs least refl e fr d ctx ∙ moves p end 44 _ (state (in_count e (awaiting (most m))) fr d ctx) lt is refl)) (number.stops (most m) refl e fr d ctx)
 
   pub after_second : (m n mid end : ℕ) (f : Fault) → NumberRead p at 0 m mid → mid < length p → get_or p mid 0 ≡ 44 → NumberRead p (mid + 1) m n end
       → (end < length p → get_or p end 0 ≡ 125 → m ≤ n → ⊥) → f ≡ refused BadlyWritten end → CountsRefused p at f
@@ -102,9 +102,9 @@ module _ (p : List ℕ) (at : ℕ) where
       stop e fr d ctx =
           stopped p f end _ fault last.within
           (num.runs least refl e fr d ctx
-          ∙ moves p mid 44 _ (state (inCount e (awaiting (most m))) fr d ctx) lt is refl
+          ∙ moves p mid 44 _ (state (in_count e (awaiting (most m))) fr d ctx) lt is refl
           ∙ last.runs (most m) refl e fr d ctx
-          ∙ stops_at p end _ last.within refl (λ lt. ap (λ n. ofCount n e fr d ctx) (second_stuck _ _ m n (in_count (get_or p end 0)) (no_end lt) (λ j told. last.stuck j told lt))))
+          ∙ stops_at p end _ last.within refl (λ lt. ap (λ n. of_count n e fr d ctx) (second_stuck _ _ m n (in_count_lem (get_or p end 0)) (no_end lt) (λ j told. last.stuck j told lt))))
 
   pub two_counts : (m n mid end : ℕ) → NumberRead p at 0 m mid → mid < length p → get_or p mid 0 ≡ 44 → NumberRead p (mid + 1) m n end → end < length p → get_or p end 0 ≡ 125 → m ≤ n → CountsRead p at m n (end + 1)
   two_counts m n mid end num lt is last inside ends le = record {

@@ -3,7 +3,7 @@ use Rattle.std.proofs.Common.{◌≡◌, ℕ, zero, suc, ◌-◌, ◌<◌, ◌�
 use Rattle.pattern.specs.Expressions.{Regex}
 use Rattle.pattern.specs.Grammar.{WellWritten}
 use Rattle.pattern.specs.Beginnings.{LongestBeginning}
-use Rattle.pattern.specs.Automaton.{State, state, ready, after, escape, inClass, inCount, Next, dead, alive, good, bad, finish, step_of, verdict, start}
+use Rattle.pattern.specs.Automaton.{State, state, ready, after, escape, in_class, in_count, Next, dead, alive, good, bad, finish, step_of, verdict, start}
 use Rattle.pattern.proofs.Runs.{onward, verdict_is, verdict_end}
 use Rattle.pattern.proofs.Seen.{Seen}
 use Rattle.pattern.proofs.Steps.{Goes, step_goes}
@@ -20,8 +20,8 @@ finish_bad (state (after f) fr d []) n e = never _ n (sym e)
 finish_bad (state ready fr d (x ∷ ctx)) n e = sym (same_bad 0 n e)
 finish_bad (state (after f) fr d (x ∷ ctx)) n e = sym (same_bad 0 n e)
 finish_bad (state escape fr d ctx) n e = sym (same_bad 0 n e)
-finish_bad (state (inClass rs c) fr d ctx) n e = sym (same_bad 0 n e)
-finish_bad (state (inCount f c) fr d ctx) n e = sym (same_bad 0 n e)
+finish_bad (state (in_class rs c) fr d ctx) n e = sym (same_bad 0 n e)
+finish_bad (state (in_count f c) fr d ctx) n e = sym (same_bad 0 n e)
 
 -- a state that the text after w leads to, with n bytes unread
 abbrev Reached : List ℕ → List ℕ → ℕ → Type 0

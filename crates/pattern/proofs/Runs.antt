@@ -3,7 +3,7 @@ use Rattle.std.proofs.Common.{◌≡◌, ℕ, suc, Bool, true, false, List, [], 
 use Rattle.std.proofs.lemmas.Bool.{true≢false}
 use Rattle.pattern.specs.Characters.{Kind, bar, times, add, query, open', close', square, unsquare, brace, unbrace, dot, backslash, plain, kind}
 use Rattle.pattern.specs.Expressions.{Regex}
-use Rattle.pattern.specs.Automaton.{Frame, State, state, ready, after, Next, dead, alive, Outcome, bad, push, begin, repeatOr, step_of, finish, verdict}
+use Rattle.pattern.specs.Automaton.{Frame, State, state, ready, after, Next, dead, alive, Outcome, bad, push, begin, repeat_or, step_of, finish, verdict}
 
 abbrev pub onward : Next → List ℕ → Outcome
 onward n w = elim n as (λ _. Outcome) [ dead ↦ bad (suc (length w)) | alive t ↦ verdict t w ]
@@ -22,27 +22,27 @@ pub verdict_end : (s : State) → verdict s [] ≡ finish s
 unfolding verdict
 verdict_end s = refl
 
-abbrev pub isRepeat : Kind → Bool
-isRepeat times = true
-isRepeat add = true
-isRepeat query = true
-isRepeat brace = true
-isRepeat bar = false
-isRepeat open' = false
-isRepeat close' = false
-isRepeat square = false
-isRepeat unsquare = false
-isRepeat unbrace = false
-isRepeat dot = false
-isRepeat backslash = false
-isRepeat plain = false
+abbrev pub is_repeat : Kind → Bool
+is_repeat times = true
+is_repeat add = true
+is_repeat query = true
+is_repeat brace = true
+is_repeat bar = false
+is_repeat open' = false
+is_repeat close' = false
+is_repeat square = false
+is_repeat unsquare = false
+is_repeat unbrace = false
+is_repeat dot = false
+is_repeat backslash = false
+is_repeat plain = false
 
 -- no repeat comes first in w
 abbrev pub NoRepeat : List ℕ → Type 0
 NoRepeat [] = Unit {0}
-NoRepeat (b ∷ w) = isRepeat (kind b) ≡ false
+NoRepeat (b ∷ w) = is_repeat (kind b) ≡ false
 
-pub settled : (k : Kind) (b : ℕ) (f : Regex) (fr : Frame) (d : ℕ) (ctx : List Frame) → isRepeat k ≡ false → repeatOr k b f fr d ctx ≡ begin k b (push f fr) d ctx
+pub settled : (k : Kind) (b : ℕ) (f : Regex) (fr : Frame) (d : ℕ) (ctx : List Frame) → is_repeat k ≡ false → repeat_or k b f fr d ctx ≡ begin k b (push f fr) d ctx
 settled times b f fr d ctx e = absurd (true≢false e)
 settled add b f fr d ctx e = absurd (true≢false e)
 settled query b f fr d ctx e = absurd (true≢false e)

@@ -6,7 +6,7 @@
 use Rattle.std.proofs.Common.{◌≡◌, ℕ, zero, suc, ◌+◌, ◌*◌, ◌<◌, ◌≤◌, ◌⊎◌, List, [], ◌∷◌, ◌++◌, decimal}
 use Rattle.pattern.specs.Expressions.{Range, Regex}
 use Rattle.pattern.specs.Grammar.{ClassByte, Members, Atom, Branch, Alternatives, Written}
-use Rattle.pattern.specs.Automaton.{Frame, frame, first, later, Mode, ready, after, escape, inClass, inCount, ClassState, fresh, inEscape, member, dashed, dashedEscape, CountState, awaiting, digits, Stage, least, most, bound, State, state}
+use Rattle.pattern.specs.Automaton.{Frame, frame, first, later, Mode, ready, after, escape, in_class, in_count, ClassState, fresh, in_escape, member, dashed, dashed_escape, CountState, awaiting, digits, Stage, least, most, bound, State, state}
 
 -- what stands between parentheses at depth d
 abbrev pub Group : ℕ → List ℕ → Regex → Type 0
@@ -16,10 +16,10 @@ Group (suc d) = Written d
 -- the inside of a class, after its members v
 abbrev pub InClass : ClassState → List ℕ → Type 0
 InClass fresh y = y ≡ []
-InClass inEscape y = y ≡ 92 ∷ []
+InClass in_escape y = y ≡ 92 ∷ []
 InClass (member a) y = ClassByte y a
 InClass (dashed a) y = (x : List ℕ) × (y ≡ x ++ 45 ∷ []) × ClassByte x a
-InClass (dashedEscape a) y = (x : List ℕ) × (y ≡ x ++ 45 ∷ (92 ∷ [])) × ClassByte x a × (a ≤ 125)
+InClass (dashed_escape a) y = (x : List ℕ) × (y ≡ x ++ 45 ∷ (92 ∷ [])) × ClassByte x a × (a ≤ 125)
 
 abbrev pub Class : List Range → ClassState → List ℕ → Type 0
 Class rs c t = (v : List ℕ) × (y : List ℕ) × (t ≡ v ++ y) × Members v rs × InClass c y
@@ -41,8 +41,8 @@ abbrev pub Sign : ℕ → Mode → List ℕ → Type 0
 Sign d ready t = t ≡ []
 Sign d (after f) t = Atom (Group d) t f
 Sign d escape t = t ≡ 92 ∷ []
-Sign d (inClass rs c) t = (v : List ℕ) × (t ≡ 91 ∷ v) × Class rs c v
-Sign d (inCount f c) t = (v : List ℕ) × (y : List ℕ) × (t ≡ v ++ 123 ∷ y) × Atom (Group d) v f × Count c y
+Sign d (in_class rs c) t = (v : List ℕ) × (t ≡ 91 ∷ v) × Class rs c v
+Sign d (in_count f c) t = (v : List ℕ) × (y : List ℕ) × (t ≡ v ++ 123 ∷ y) × Atom (Group d) v f × Count c y
 
 abbrev pub Open : ℕ → Frame → List ℕ → Type 0
 Open d (frame first e) u = Branch (Group d) u e

@@ -81,8 +81,8 @@ module _ (p : List ℕ) (at : ℕ) (lt : at < length p) where
       let byte : get_or p (at + 1) 0 ≡ b = head_is p (at + 1) b _ parts in
       true≢false (sym can ∙ ap escapable (sym byte) ∙ cannot (omega arith))
 
-  pub no_class : (r : Bool) (f : Fault) → get_or p at 0 ≡ 91 → ClassRefused p (at + 1) f → (n : ℕ) → SignText r (take n (drop at p)) → ⊥
-  no_class r f is refused n sign =
+  pub no_class_lem : (r : Bool) (f : Fault) → get_or p at 0 ≡ 91 → ClassRefused p (at + 1) f → (n : ℕ) → SignText r (take n (drop at p)) → ⊥
+  no_class_lem r f is refused n sign =
       let (k, (v, rs, e, ms, some)) = rest p at 91 lt is r n sign in
       let left = drop k (drop (at + 1) p) in
       let parts : drop (at + 1) p ≡ v ++ (93 ∷ left) = sym (take-append-drop k (drop (at + 1) p)) ∙ ap (λ l. l ++ left) e ∙ append_assoc v (93 ∷ []) left in

@@ -7,20 +7,20 @@ use Rattle.pattern.specs.declared.sign.Sign.TheVariants.{Plain, Escape, Any, Cla
 use Rattle.pattern.specs.Characters.{kind, plain, escapable}
 use Rattle.pattern.specs.Expressions.{Range, Regex, one, byte, any, star, plus, opt, counted}
 use Rattle.pattern.specs.Grammar.{Members, Counts, exactly, between, Repeated, by_star, by_plus, by_opt, by_count}
-use Rattle.pattern.specs.Automaton.{Frame, Mode, ready, after, inClass, fresh, state, begin, verdict}
+use Rattle.pattern.specs.Automaton.{Frame, Mode, ready, after, in_class, fresh, state, begin, verdict}
 use Rattle.pattern.specs.Drafts.{AtomKept, BarKept, RepeatKept}
-use Rattle.pattern.specs.Signs.{text, isEnd, Formed, Handed, Waits}
+use Rattle.pattern.specs.Signs.{text, is_end, Formed, Handed, Waits}
 use Rattle.pattern.specs.Classes.{ClassHeard, ClassStops}
 use Rattle.pattern.specs.Repeats.{CountsRead, CountsStop}
 use Rattle.pattern.specs.Walks.{Leads, Steps, StepStops, GroupRead}
-use Rattle.pattern.proofs.Runs.{NoRepeat, isRepeat, verdict_alive}
+use Rattle.pattern.proofs.Runs.{NoRepeat, is_repeat, verdict_alive}
 use Rattle.pattern.proofs.ClassRuns.{class_runs}
 use Rattle.pattern.proofs.Completes.{escape_runs}
 use Rattle.pattern.proofs.Slices.{drop_is, head_is, split_at, moves}
 use Rattle.pattern.proofs.SignWays.{count_stops, class_stops}
 use Rattle.pattern.proofs.Walking.{inside, part_within, atom_leads, bar_leads, repeat_leads, sign_stops}
 
-end_empty : (s : Sign) → isEnd s ≡ true → length (text s) ≡ 0
+end_empty : (s : Sign) → is_end s ≡ true → length (text s) ≡ 0
 end_empty (Plain t) e = absurd (true≢false (sym e))
 end_empty (Escape t) e = absurd (true≢false (sym e))
 end_empty (Any t) e = absurd (true≢false (sym e))
@@ -40,9 +40,9 @@ sign_within p at r s le handed =
     (λ ge. omega (arith, end_empty s (handed.ended ∙ le-leb (length p) at ge))) (cases_lt at (length p))
 
 -- a sign of one byte that was handed out
-pub begun : (p : List ℕ) (at : ℕ) (r : Bool) (s s' : Sign) (b : ℕ) → Handed p at r s → s ≡ s' → false ≡ isEnd s' → (Formed r s' → text s' ≡ b ∷ []) → (at < length p) × (drop at p ≡ b ∷ drop (at + length (text s)) p)
+pub begun : (p : List ℕ) (at : ℕ) (r : Bool) (s s' : Sign) (b : ℕ) → Handed p at r s → s ≡ s' → false ≡ is_end s' → (Formed r s' → text s' ≡ b ∷ []) → (at < length p) × (drop at p ≡ b ∷ drop (at + length (text s)) p)
 begun p at r s s' b handed is not_end told =
-    (inside p at (not_end ∙ sym (ap isEnd is) ∙ handed.ended), handed.part ∙ ap (λ l. l ++ drop (at + length (text s)) p) (ap text is ∙ told (subst (Formed r) is handed.formed)))
+    (inside p at (not_end ∙ sym (ap is_end is) ∙ handed.ended), handed.part ∙ ap (λ l. l ++ drop (at + length (text s)) p) (ap text is ∙ told (subst (Formed r) is handed.formed)))
 
 -- u is the text of the sign at `at`, and n its length; r says whether a repeat may stand here, and K is what is kept
 module _ (p : List ℕ) (at d n : ℕ) (r : Bool) (K K' : Mode → Frame → Type 0) (waits : (m : Mode) (fr : Frame) → K m fr → Waits r m) (u : List ℕ) (lt : at < length p) (part : drop at p ≡ u ++ drop (at + length u) p) (long : n ≡ length u) where
@@ -62,7 +62,7 @@ module _ (p : List ℕ) (at d n : ℕ) (r : Bool) (K K' : Mode → Frame → Typ
       (atom_leads p at d r K waits (at + n) K' e (subst NoRepeat (sym (begins v is)) free) (λ fr ctx. ap (verdict _) (begins v is) ∙ runs fr ctx (drop (at + n) p)) told)
 
   pub plain_steps : (b : ℕ) → u ≡ b ∷ [] → kind b ≡ plain → AtomKept K K' (one (byte b)) → Steps p at d K (at + n) K'
-  plain_steps b is none told = atom (b ∷ []) (one (byte b)) is (omega arith) (ap isRepeat none) (λ fr ctx w. verdict_alive _ _ b w (ap (λ k. begin k b fr d ctx) none)) told
+  plain_steps b is none told = atom (b ∷ []) (one (byte b)) is (omega arith) (ap is_repeat none) (λ fr ctx w. verdict_alive _ _ b w (ap (λ k. begin k b fr d ctx) none)) told
 
   pub escape_steps : (b : ℕ) → u ≡ 92 ∷ (b ∷ []) → escapable b ≡ true → AtomKept K K' (one (byte b)) → Steps p at d K (at + n) K'
   escape_steps b is can told = atom (92 ∷ (b ∷ [])) (one (byte b)) is (omega arith) refl (λ fr ctx w. escape_runs b can fr d ctx w) told
@@ -114,7 +114,7 @@ module _ (p : List ℕ) (at d : ℕ) (r : Bool) (K : Mode → Frame → Type 0) 
         forward = omega arith;
         within = omega arith;
         leads = atom_leads p at d r K waits (end + 1) K' (one read.members) (subst NoRepeat (sym (drop_is p at 91 lt is)) refl)
-            (λ fr ctx. moves p at 91 _ (state (inClass [] fresh) fr d ctx) lt is refl ∙ ap (verdict _) parts ∙ class_runs fr d ctx read.written read.some (drop (end + 1) p))
+            (λ fr ctx. moves p at 91 _ (state (in_class [] fresh) fr d ctx) lt is refl ∙ ap (verdict _) parts ∙ class_runs fr d ctx read.written read.some (drop (end + 1) p))
             (told inner read.members read.written read.some heard.holds);
       }
 
@@ -127,8 +127,8 @@ module _ (p : List ℕ) (at d : ℕ) (r : Bool) (K : Mode → Frame → Type 0) 
 
 -- the same, of a sign as it was handed out
 module _ (p : List ℕ) (at d n : ℕ) (r : Bool) (K K' : Mode → Frame → Type 0) (waits : (m : Mode) (fr : Frame) → K m fr → Waits r m) (s : Sign) (handed : Handed p at r s) (long : n ≡ length (text s)) where
-  within : (s' : Sign) → s ≡ s' → false ≡ isEnd s' → at < length p
-  within s' is not_end = inside p at (not_end ∙ sym (ap isEnd is) ∙ handed.ended)
+  within : (s' : Sign) → s ≡ s' → false ≡ is_end s' → at < length p
+  within s' is not_end = inside p at (not_end ∙ sym (ap is_end is) ∙ handed.ended)
 
   formed : (s' : Sign) → s ≡ s' → Formed r s'
   formed s' is = subst (Formed r) is handed.formed
@@ -162,7 +162,7 @@ module _ (p : List ℕ) (at d : ℕ) (r : Bool) (K : Mode → Frame → Type 0) 
   counted_here : (at < length p) × (get_or p at 0 ≡ 123) × (r ≡ true)
   counted_here =
       let f : Formed r (Counted t) = subst (Formed r) is handed.formed in
-      (inside p at (sym (ap isEnd is) ∙ handed.ended), head_is p at 123 _ (handed.part ∙ ap (λ l. l ++ drop (at + length (text s)) p) (ap text is ∙ f.3)), f.5)
+      (inside p at (sym (ap is_end is) ∙ handed.ended), head_is p at 123 _ (handed.part ∙ ap (λ l. l ++ drop (at + length (text s)) p) (ap text is ∙ f.3)), f.5)
 
   pub counted_of : (K' : Mode → Frame → Type 0) (m n end : ℕ) → CountsRead p (at + 1) m n end → (m ≤ n → RepeatKept K K' (counted m n)) → Steps p at d K end K'
   counted_of K' m n end read told = let (lt, brace, again) = counted_here in counted_steps p at d r K waits lt K' m n end brace read again told
@@ -172,7 +172,7 @@ module _ (p : List ℕ) (at d : ℕ) (r : Bool) (K : Mode → Frame → Type 0) 
 
 module _ (p : List ℕ) (at d : ℕ) (r : Bool) (K : Mode → Frame → Type 0) (waits : (m : Mode) (fr : Frame) → K m fr → Waits r m) (s : Sign) (t : Bor (List ℕ)) (handed : Handed p at r s) (is : s ≡ Class t) where
   class_here : (at < length p) × (get_or p at 0 ≡ 91)
-  class_here = (inside p at (sym (ap isEnd is) ∙ handed.ended), head_is p at 91 _ (handed.part ∙ ap (λ l. l ++ drop (at + length (text s)) p) (ap text is)))
+  class_here = (inside p at (sym (ap is_end is) ∙ handed.ended), head_is p at 91 _ (handed.part ∙ ap (λ l. l ++ drop (at + length (text s)) p) (ap text is)))
 
   pub class_of : (K' : Mode → Frame → Type 0) (end : ℕ) (E : List Range → Type 0) → ClassHeard p (at + 1) end E
       → ((w : List ℕ) (rs : List Range) → Members w rs → 0 < length rs → E rs → AtomKept K K' (one rs)) → Steps p at d K (end + 1) K'

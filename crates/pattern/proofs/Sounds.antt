@@ -3,7 +3,7 @@ use Rattle.std.proofs.Common.{◌≡◌, ℕ, ◌<◌, List, [], ◌∷◌, ◌+
 use Rattle.std.specs.List.{AllByRecursion}
 use Rattle.pattern.specs.Expressions.{Regex}
 use Rattle.pattern.specs.Grammar.{Written, once, nothing}
-use Rattle.pattern.specs.Automaton.{Frame, State, state, ready, after, escape, inClass, inCount, Next, dead, alive, good, bad, closed, push, step_of, finish, verdict, start}
+use Rattle.pattern.specs.Automaton.{Frame, State, state, ready, after, escape, in_class, in_count, Next, dead, alive, good, bad, closed, push, step_of, finish, verdict, start}
 use Rattle.pattern.proofs.Seen.{Open, Seen}
 use Rattle.pattern.proofs.Steps.{Goes, shut, grow, written_is, step_goes}
 use Rattle.pattern.proofs.Runs.{onward, verdict_is, verdict_end}
@@ -29,8 +29,8 @@ finish_sounds (state (after f) fr d []) w e (o, u, t, is, around, within, sign) 
 finish_sounds (state ready fr d (x ∷ ctx)) w e seen same = never e 0 same
 finish_sounds (state (after f) fr d (x ∷ ctx)) w e seen same = never e 0 same
 finish_sounds (state escape fr d ctx) w e seen same = never e 0 same
-finish_sounds (state (inClass rs c) fr d ctx) w e seen same = never e 0 same
-finish_sounds (state (inCount f c) fr d ctx) w e seen same = never e 0 same
+finish_sounds (state (in_class rs c) fr d ctx) w e seen same = never e 0 same
+finish_sounds (state (in_count f c) fr d ctx) w e seen same = never e 0 same
 
 onward_sounds : (n : Next) (w p : List ℕ) (e : Regex) → Goes n w → ((t : State) → Seen t w → verdict t p ≡ good e → Written 16 (w ++ p) e) → onward n p ≡ good e → Written 16 (w ++ p) e
 onward_sounds dead w p e goes rest is = never e _ is

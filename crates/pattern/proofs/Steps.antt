@@ -1,10 +1,10 @@
 -- A step of the automaton adds its byte to the text that was read. Assumes nothing.
 use Rattle.std.proofs.Common.{◌≡◌, ℕ, zero, suc, ◌<◌, List, [], ◌∷◌, ◌++◌, sym, refl, ap, ◌∙◌, subst, append_assoc, append-nil}
 use Rattle.std.proofs.lemmas.Bool.{cond_both}
-use Rattle.pattern.specs.Characters.{Kind, bar, times, add, query, open', close', square, unsquare, brace, unbrace, dot, backslash, plain, kind, escapable, classKind}
+use Rattle.pattern.specs.Characters.{Kind, bar, times, add, query, open', close', square, unsquare, brace, unbrace, dot, backslash, plain, kind, escapable, class_kind}
 use Rattle.pattern.specs.Expressions.{Regex, one, alt, counted}
 use Rattle.pattern.specs.Grammar.{none, Repeated, by_star, by_plus, by_opt, by_count, Atom, a_plain, an_escape, a_dot, a_class, a_group, Piece, once, repeated, nothing, followed, Alternatives, lone, also, Written}
-use Rattle.pattern.specs.Automaton.{Frame, frame, first, later, ready, after, escape, inClass, inCount, ClassNext, noClass, inside, finished, classNext, CountNext, noCount, counting, counts, countNext, countKind, State, state, Next, dead, alive, push, closed, begin, repeatOr, ofClass, ofCount, step_of}
+use Rattle.pattern.specs.Automaton.{Frame, frame, first, later, ready, after, escape, in_class, in_count, ClassNext, no_class, inside, finished, class_next, CountNext, no_count, counting, counts, count_next, count_kind, State, state, Next, dead, alive, push, closed, begin, repeat_or, of_class, of_count, step_of}
 use Rattle.pattern.proofs.Chars.{Has, has}
 use Rattle.pattern.proofs.Seen.{Group, Open, Around, Seen}
 use Rattle.pattern.proofs.ClassSeen.{class_goes, Goes as ClassGoes}
@@ -64,10 +64,10 @@ repeated_goes w o u t r f g fr d ctx is around within atom rep =
     (o, u ++ (t ++ r), [], glue w o u t r is ∙ ap (λ l. o ++ l) (sym (append-nil _)), around, grow d fr u (t ++ r) g within (repeated atom rep), refl)
 
 after_goes : (b : ℕ) → b < 256 → (k : Kind) → kind b ≡ k → Has k b → (f : Regex) (fr : Frame) (d : ℕ) (ctx : List Frame) (w o u t : List ℕ)
-    → w ≡ o ++ (u ++ t) → Around d ctx o → Open d fr u → Atom (Group d) t f → Goes (repeatOr k b f fr d ctx) (w ++ b ∷ [])
-after_goes b small times is has f fr d ctx w o u t e around within atom = subst (λ x. Goes (repeatOr times x f fr d ctx) (w ++ x ∷ [])) (sym has) (repeated_goes w o u t _ f _ fr d ctx e around within atom by_star)
-after_goes b small add is has f fr d ctx w o u t e around within atom = subst (λ x. Goes (repeatOr add x f fr d ctx) (w ++ x ∷ [])) (sym has) (repeated_goes w o u t _ f _ fr d ctx e around within atom by_plus)
-after_goes b small query is has f fr d ctx w o u t e around within atom = subst (λ x. Goes (repeatOr query x f fr d ctx) (w ++ x ∷ [])) (sym has) (repeated_goes w o u t _ f _ fr d ctx e around within atom by_opt)
+    → w ≡ o ++ (u ++ t) → Around d ctx o → Open d fr u → Atom (Group d) t f → Goes (repeat_or k b f fr d ctx) (w ++ b ∷ [])
+after_goes b small times is has f fr d ctx w o u t e around within atom = subst (λ x. Goes (repeat_or times x f fr d ctx) (w ++ x ∷ [])) (sym has) (repeated_goes w o u t _ f _ fr d ctx e around within atom by_star)
+after_goes b small add is has f fr d ctx w o u t e around within atom = subst (λ x. Goes (repeat_or add x f fr d ctx) (w ++ x ∷ [])) (sym has) (repeated_goes w o u t _ f _ fr d ctx e around within atom by_plus)
+after_goes b small query is has f fr d ctx w o u t e around within atom = subst (λ x. Goes (repeat_or query x f fr d ctx) (w ++ x ∷ [])) (sym has) (repeated_goes w o u t _ f _ fr d ctx e around within atom by_opt)
 after_goes b small brace is has f fr d ctx w o u t e around within atom =
     (o, u, t ++ b ∷ [], glue w o u t _ e, around, within, (t, [], ap (λ x. t ++ x ∷ []) has, atom, refl))
 after_goes b small bar is has f fr d ctx w o u t e around within atom = begin_goes b small bar is has (push f fr) d ctx w o (u ++ t) e around (grow d fr u t f within (once atom))
@@ -81,16 +81,16 @@ after_goes b small backslash is has f fr d ctx w o u t e around within atom = be
 after_goes b small plain is has f fr d ctx w o u t e around within atom = begin_goes b small plain is has (push f fr) d ctx w o (u ++ t) e around (grow d fr u t f within (once atom))
 
 class_steps : (b : ℕ) (n : ClassNext) (fr : Frame) (d : ℕ) (ctx : List Frame) (w o u t v : List ℕ)
-    → w ≡ o ++ (u ++ t) → Around d ctx o → Open d fr u → t ≡ 91 ∷ v → ClassGoes n v b → Goes (ofClass n fr d ctx) (w ++ b ∷ [])
-class_steps b noClass fr d ctx w o u t v e around within is goes = tt
+    → w ≡ o ++ (u ++ t) → Around d ctx o → Open d fr u → t ≡ 91 ∷ v → ClassGoes n v b → Goes (of_class n fr d ctx) (w ++ b ∷ [])
+class_steps b no_class fr d ctx w o u t v e around within is goes = tt
 class_steps b (inside rs c) fr d ctx w o u t v e around within is goes =
     (o, u, t ++ b ∷ [], glue w o u t _ e, around, within, (v ++ b ∷ [], ap (λ l. l ++ b ∷ []) is, goes))
 class_steps b (finished rs) fr d ctx w o u t v e around within is (ends, some, ms) =
     (o, u, t ++ b ∷ [], glue w o u t _ e, around, within, subst (λ l. Atom (Group d) l (one rs)) (sym (λ i. is i ++ ends i ∷ [])) (a_class ms some))
 
 count_steps : (b : ℕ) (n : CountNext) (f : Regex) (fr : Frame) (d : ℕ) (ctx : List Frame) (w o u t v y : List ℕ)
-    → w ≡ o ++ (u ++ t) → Around d ctx o → Open d fr u → t ≡ v ++ 123 ∷ y → Atom (Group d) v f → CountGoes n y b → Goes (ofCount n f fr d ctx) (w ++ b ∷ [])
-count_steps b noCount f fr d ctx w o u t v y e around within is atom goes = tt
+    → w ≡ o ++ (u ++ t) → Around d ctx o → Open d fr u → t ≡ v ++ 123 ∷ y → Atom (Group d) v f → CountGoes n y b → Goes (of_count n f fr d ctx) (w ++ b ∷ [])
+count_steps b no_count f fr d ctx w o u t v y e around within is atom goes = tt
 count_steps b (counting c) f fr d ctx w o u t v y e around within is atom goes =
     (o, u, t ++ b ∷ [], glue w o u t _ e, around, within, (v, y ++ b ∷ [], ap (λ l. l ++ b ∷ []) is ∙ append_assoc v (123 ∷ y) _, atom, goes))
 count_steps b (counts m n) f fr d ctx w o u t v y e around within is atom goes = (
@@ -110,7 +110,7 @@ step_goes (state (after f) fr d ctx) b w small (o, u, t, e, around, within, sign
 step_goes (state escape fr d ctx) b w small (o, u, t, e, around, within, sign) =
     cond_both (escapable b) _ _ (λ n. Goes n (w ++ b ∷ []))
     (λ is. (o, u, 92 ∷ (b ∷ []), glue w o u t _ e ∙ ap (λ l. o ++ (u ++ (l ++ b ∷ []))) sign, around, within, an_escape is)) (λ _. tt)
-step_goes (state (inClass rs c) fr d ctx) b w small (o, u, t, e, around, within, (v, is, class)) =
-    class_steps b (classNext (classKind b) b rs c) fr d ctx w o u t v e around within is (class_goes b small rs c v class)
-step_goes (state (inCount f c) fr d ctx) b w small (o, u, t, e, around, within, (v, y, is, atom, count)) =
-    count_steps b (countNext (countKind b) c) f fr d ctx w o u t v y e around within is atom (count_goes b c y count)
+step_goes (state (in_class rs c) fr d ctx) b w small (o, u, t, e, around, within, (v, is, class)) =
+    class_steps b (class_next (class_kind b) b rs c) fr d ctx w o u t v e around within is (class_goes b small rs c v class)
+step_goes (state (in_count f c) fr d ctx) b w small (o, u, t, e, around, within, (v, y, is, atom, count)) =
+    count_steps b (count_next (count_kind b) c) f fr d ctx w o u t v y e around within is atom (count_goes b c y count)

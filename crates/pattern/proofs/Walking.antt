@@ -5,7 +5,7 @@ use Rattle.std.proofs.lemmas.Bool.{cases_lt, leb-true, leb-false}
 use Rattle.fault.specs.declared.Fault.{Fault}
 use Rattle.pattern.specs.Expressions.{Regex, empty}
 use Rattle.pattern.specs.Grammar.{Repeated}
-use Rattle.pattern.specs.Automaton.{Frame, frame, later, Mode, ready, after, escape, inClass, inCount, state, push, opened, closed, verdict}
+use Rattle.pattern.specs.Automaton.{Frame, frame, later, Mode, ready, after, escape, in_class, in_count, state, push, opened, closed, verdict}
 use Rattle.pattern.specs.Drafts.{settled, AtomKept, BarKept, RepeatKept, ClosedKept}
 use Rattle.pattern.specs.Refusals.{Stops}
 use Rattle.pattern.specs.Signs.{SignStops, Waits}
@@ -18,13 +18,13 @@ settle_runs : (r : Bool) (m : Mode) → Waits r m → (fr : Frame) (d : ℕ) (ct
 settle_runs false ready is fr d ctx w free = refl
 settle_runs false (after f) is fr d ctx w free = absurd is
 settle_runs false escape is fr d ctx w free = absurd is
-settle_runs false (inClass rs s) is fr d ctx w free = absurd is
-settle_runs false (inCount f s) is fr d ctx w free = absurd is
+settle_runs false (in_class rs s) is fr d ctx w free = absurd is
+settle_runs false (in_count f s) is fr d ctx w free = absurd is
 settle_runs true ready is fr d ctx w free = absurd is
 settle_runs true (after f) is fr d ctx w free = settles f fr d ctx w free
 settle_runs true escape is fr d ctx w free = absurd is
-settle_runs true (inClass rs s) is fr d ctx w free = absurd is
-settle_runs true (inCount f s) is fr d ctx w free = absurd is
+settle_runs true (in_class rs s) is fr d ctx w free = absurd is
+settle_runs true (in_count f s) is fr d ctx w free = absurd is
 
 module _ (p : List ℕ) (at : ℕ) where
   pub part_within : (u : List ℕ) → at < length p → drop at p ≡ u ++ drop (at + length u) p → at + length u ≤ length p
@@ -82,8 +82,8 @@ module _ (p : List ℕ) (at : ℕ) where
         runs = λ ctx. ap (verdict _) is ∙ repeat_runs (written f) fr d ctx (drop end p);
       }
       repeat_leads u g written again is told escape fr keeps = absurd (subst (λ b. Waits b escape) again (waits escape fr keeps))
-      repeat_leads u g written again is told (inClass rs s) fr keeps = absurd (subst (λ b. Waits b (inClass rs s)) again (waits (inClass rs s) fr keeps))
-      repeat_leads u g written again is told (inCount f s) fr keeps = absurd (subst (λ b. Waits b (inCount f s)) again (waits (inCount f s) fr keeps))
+      repeat_leads u g written again is told (in_class rs s) fr keeps = absurd (subst (λ b. Waits b (in_class rs s)) again (waits (in_class rs s) fr keeps))
+      repeat_leads u g written again is told (in_count f s) fr keeps = absurd (subst (λ b. Waits b (in_count f s)) again (waits (in_count f s) fr keeps))
 
 module _ (p : List ℕ) (from d at : ℕ) (K : Mode → Frame → Type 0) where
   pub walk_more : (next : ℕ) (K' : Mode → Frame → Type 0) → Leads p from d at ready opened K → Steps p at d K next K' → Leads p from d next ready opened K'

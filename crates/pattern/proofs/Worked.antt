@@ -129,14 +129,14 @@ counts_omit (u, v, is, none, (x, y, is2, front, back)) =
     omega (arith, ap length is, length-append u v, ap length none, ap length is2, length-append x y, copies_short 2 (Matches either) either_short x front, copies_short 1 (Union (Matches either) Empty) or_none_short y back)
 
 -- a{0}
-abbrev noneOf : Regex
-noneOf = seq empty (counted 0 0 (letter 97))
+abbrev none_of : Regex
+none_of = seq empty (counted 0 0 (letter 97))
 
-none_read : Written 16 (codes "a{0}") noneOf
+none_read : Written 16 (codes "a{0}") none_of
 unfolding verdict
-none_read = read_as (codes "a{0}") noneOf refl refl
+none_read = read_as (codes "a{0}") none_of refl refl
 
-none_omits : Matches noneOf (codes "a") → ⊥
+none_omits : Matches none_of (codes "a") → ⊥
 none_omits (u, v, is, none, (x, y, is2, front, back)) = omega (arith, ap length is, length-append u v, ap length none, ap length is2, length-append x y, ap length front, ap length back)
 
 abbrev times : ℕ → Regex
@@ -160,8 +160,8 @@ examples = record {
   count_granted = granted_as (codes "(a|b){2,3}") counts 6 refl (omega arith) refl refl (omega arith);
   count_yields = (counts, counts_read, counts_yield);
   count_omits = (counts, counts_read, counts_omit);
-  none_granted = granted_as (codes "a{0}") noneOf 0 refl (omega arith) refl refl (omega arith);
-  none_omits = (noneOf, none_read, none_omits);
+  none_granted = granted_as (codes "a{0}") none_of 0 refl (omega arith) refl refl (omega arith);
+  none_omits = (none_of, none_read, none_omits);
   full_granted = granted_as (codes "a{32}a{31}") (seq (seq empty (times 32)) (times 31)) 63 refl (omega arith) refl refl (omega arith);
   crowded = crowded;
   most_below_least = refused_at (codes "a{2,1}") 1 5 refl (omega arith) refl refl;

@@ -10,10 +10,10 @@ use Rattle.pattern.specs.declared.class.Progress.{Progress}
 use Rattle.pattern.specs.declared.class.Progress.TheVariants.{Empty, Between, Member, Dash, Escape, DashEscape}
 use Rattle.pattern.specs.declared.class.Taken.{Taken}
 use Rattle.pattern.specs.declared.class.Taken.TheVariants.{Inside, Ended, Refused}
-use Rattle.pattern.specs.Characters.{classKind}
+use Rattle.pattern.specs.Characters.{class_kind}
 use Rattle.pattern.specs.Expressions.{Range}
 use Rattle.pattern.specs.Grammar.{Members}
-use Rattle.pattern.specs.Automaton.{Frame, state, inClass, ClassState, fresh, inEscape, member, dashed, dashedEscape, ClassNext, noClass, inside, finished, classNext, verdict}
+use Rattle.pattern.specs.Automaton.{Frame, state, in_class, ClassState, fresh, in_escape, member, dashed, dashed_escape, ClassNext, no_class, inside, finished, class_next, verdict}
 use Rattle.pattern.specs.Refusals.{Stops}
 
 abbrev pub state_of : Progress → ClassState
@@ -21,8 +21,8 @@ state_of Empty = fresh
 state_of Between = fresh
 state_of (Member a) = member a
 state_of (Dash a) = dashed a
-state_of Escape = inEscape
-state_of (DashEscape a) = dashedEscape a
+state_of Escape = in_escape
+state_of (DashEscape a) = dashed_escape a
 
 -- rs are the members that are finished
 abbrev pub Suits : List Range → Progress → Type 0
@@ -36,19 +36,19 @@ Suits rs (DashEscape a) = Unit {0}
 abbrev pub Leads : Taken → ClassNext → Progress → Type 0
 Leads Inside n new = (rs : List Range) × (n ≡ inside rs (state_of new)) × Suits rs new
 Leads Ended n new = (rs : List Range) × (n ≡ finished rs)
-Leads Refused n new = n ≡ noClass
+Leads Refused n new = n ≡ no_class
 
 abbrev pub Follows : Progress → ℕ → Taken → Progress → Type 0
-Follows old b t new = (rs : List Range) → Suits rs old → Leads t (classNext (classKind b) b rs (state_of old)) new
+Follows old b t new = (rs : List Range) → Suits rs old → Leads t (class_next (class_kind b) b rs (state_of old)) new
 
 -- the members that are finished once the byte b has been taken
-abbrev pub doneBy : Progress → ℕ → List Range
-doneBy Empty b = []
-doneBy Between b = []
-doneBy (Member a) b = cond (b == 45) [] ((a, a) ∷ [])
-doneBy (Dash a) b = cond (b == 92) [] ((a, b) ∷ [])
-doneBy Escape b = []
-doneBy (DashEscape a) b = (a, b) ∷ []
+abbrev pub done_by : Progress → ℕ → List Range
+done_by Empty b = []
+done_by Between b = []
+done_by (Member a) b = cond (b == 45) [] ((a, a) ∷ [])
+done_by (Dash a) b = cond (b == 92) [] ((a, b) ∷ [])
+done_by Escape b = []
+done_by (DashEscape a) b = (a, b) ∷ []
 
 pub record ClassRead (p : List ℕ) (at end : ℕ) : Type 0 where
   pub forward : at ≤ end
@@ -63,7 +63,7 @@ pub record ClassHeard (p : List ℕ) (at end : ℕ) (E : List Range → Type 0) 
   pub holds : E read.members
 
 abbrev pub ClassStops : List ℕ → ℕ → Fault → Type 0
-ClassStops p at f = (fr : Frame) (d : ℕ) (ctx : List Frame) → Stops p f (verdict (state (inClass [] fresh) fr d ctx) (drop at p))
+ClassStops p at f = (fr : Frame) (d : ℕ) (ctx : List Frame) → Stops p f (verdict (state (in_class [] fresh) fr d ctx) (drop at p))
 
 -- no class stands from `at` on, and the fault has its place
 pub record ClassRefused (p : List ℕ) (at : ℕ) (f : Fault) : Type 0 where

@@ -6,7 +6,7 @@
 use Rattle.std.specs.Prelude.{◌≡◌, true, false}
 use Rattle.pattern.specs.declared.draft.Draft.{Draft}
 use Rattle.pattern.specs.Expressions.{Regex, empty}
-use Rattle.pattern.specs.Automaton.{first, later, Mode, ready, after, escape, inClass, inCount, Frame, frame, push, closed}
+use Rattle.pattern.specs.Automaton.{first, later, Mode, ready, after, escape, in_class, in_count, Frame, frame, push, closed}
 
 abbrev pub Opens : {T : Type 0} → (T → Regex → Type 0) → Draft T → Frame → Type 0
 Opens S c (frame first e) = (c.later ≡ false) × S c.branch e
@@ -16,21 +16,21 @@ abbrev pub Keeps : {T : Type 0} → (T → Regex → Type 0) → Draft T → Mod
 Keeps S c ready fr = Opens S c fr × (c.repeatable ≡ false)
 Keeps S c (after f) fr = Opens S c fr × S c.last f × (c.repeatable ≡ true)
 Keeps S c escape fr = ⊥
-Keeps S c (inClass rs s) fr = ⊥
-Keeps S c (inCount f s) fr = ⊥
+Keeps S c (in_class rs s) fr = ⊥
+Keeps S c (in_count f s) fr = ⊥
 
 abbrev pub settled : Mode → Frame → Frame
 settled ready fr = fr
 settled (after f) fr = push f fr
 settled escape fr = fr
-settled (inClass rs s) fr = fr
-settled (inCount f s) fr = fr
+settled (in_class rs s) fr = fr
+settled (in_count f s) fr = fr
 
-abbrev pub branchOf : Frame → Regex
-branchOf (frame s e) = e
+abbrev pub branch_of : Frame → Regex
+branch_of (frame s e) = e
 
 abbrev pub WholeKept : {T : Type 0} → (T → Regex → Type 0) → Draft T → T → Type 0
-WholeKept S c r = (m : Mode) (fr : Frame) → Keeps S c m fr → S r (branchOf (settled m fr))
+WholeKept S c r = (m : Mode) (fr : Frame) → Keeps S c m fr → S r (branch_of (settled m fr))
 
 abbrev pub ClosedKept : (Mode → Frame → Type 0) → (Regex → Type 0) → Type 0
 ClosedKept K E = (m : Mode) (fr : Frame) → K m fr → E (closed (settled m fr))

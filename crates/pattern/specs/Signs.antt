@@ -10,7 +10,7 @@ use Rattle.pattern.specs.declared.sign.Sign.TheVariants.{Plain, Escape, Any, Cla
 use Rattle.pattern.specs.Characters.{kind, plain, escapable}
 use Rattle.pattern.specs.Expressions.{Range, Regex}
 use Rattle.pattern.specs.Grammar.{Members, Counts, Atom, Repeated}
-use Rattle.pattern.specs.Automaton.{Frame, Mode, ready, after, escape, inClass, inCount, state, verdict}
+use Rattle.pattern.specs.Automaton.{Frame, Mode, ready, after, escape, in_class, in_count, state, verdict}
 use Rattle.pattern.specs.Refusals.{Stops}
 
 -- a class is handed out as what stands between its brackets
@@ -50,32 +50,32 @@ Formed repeatable (Open t) = t.now ≡ 40 ∷ []
 Formed repeatable (Close t) = t.now ≡ 41 ∷ []
 Formed repeatable End = Unit {0}
 
-abbrev pub isEnd : Sign → Bool
-isEnd (Plain t) = false
-isEnd (Escape t) = false
-isEnd (Any t) = false
-isEnd (Class t) = false
-isEnd (Bar t) = false
-isEnd (Star t) = false
-isEnd (Plus t) = false
-isEnd (Question t) = false
-isEnd (Counted t) = false
-isEnd (Open t) = false
-isEnd (Close t) = false
-isEnd End = true
+abbrev pub is_end : Sign → Bool
+is_end (Plain t) = false
+is_end (Escape t) = false
+is_end (Any t) = false
+is_end (Class t) = false
+is_end (Bar t) = false
+is_end (Star t) = false
+is_end (Plus t) = false
+is_end (Question t) = false
+is_end (Counted t) = false
+is_end (Open t) = false
+is_end (Close t) = false
+is_end End = true
 
 -- in whichever mode the automaton waits for a sign, the fault has the place where it stops
 abbrev pub Waits : Bool → Mode → Type 0
 Waits false ready = Unit {0}
 Waits false (after f) = ⊥
 Waits false escape = ⊥
-Waits false (inClass rs c) = ⊥
-Waits false (inCount f c) = ⊥
+Waits false (in_class rs c) = ⊥
+Waits false (in_count f c) = ⊥
 Waits true ready = ⊥
 Waits true (after f) = Unit {0}
 Waits true escape = ⊥
-Waits true (inClass rs c) = ⊥
-Waits true (inCount f c) = ⊥
+Waits true (in_class rs c) = ⊥
+Waits true (in_count f c) = ⊥
 
 abbrev pub SignStops : List ℕ → ℕ → Bool → Fault → Type 0
 SignStops p at repeatable f = (m : Mode) → Waits repeatable m → (fr : Frame) (d : ℕ) (ctx : List Frame) → Stops p f (verdict (state m fr d ctx) (drop at p))
@@ -88,4 +88,4 @@ pub record SignRefused (p : List ℕ) (at : ℕ) (repeatable : Bool) (f : Fault)
 pub record Handed (p : List ℕ) (at : ℕ) (repeatable : Bool) (s : Sign) : Type 0 where
   pub formed : Formed repeatable s
   pub part : drop at p ≡ text s ++ drop (at + length (text s)) p
-  pub ended : isEnd s ≡ nat_le (length p) at
+  pub ended : is_end s ≡ nat_le (length p) at

@@ -1,8 +1,8 @@
 // The class, from after its bracket: its state and the next byte together decide.
 ghost use Rattle.std.specs.Prelude.{◌≡◌, ◌≤◌, List, ◌++◌, length, MatchResult};
-ghost use Rattle.pattern.specs.Characters.{escapable, classKind, isItself};
+ghost use Rattle.pattern.specs.Characters.{escapable, class_kind, is_itself};
 ghost use Rattle.pattern.specs.Expressions.{Range};
-ghost use Rattle.pattern.specs.Classes.{Follows, doneBy, ClassHeard, ClassRead, ClassRefused};
+ghost use Rattle.pattern.specs.Classes.{Follows, done_by, ClassHeard, ClassRead, ClassRefused};
 
 use crate::gathering::{Gathering, Unseen};
 use crate::refusal::badly_written;
@@ -37,7 +37,7 @@ pub(crate) fn is_escapable(byte: u8) -> bool
 
 // What has no office inside a class.
 fn is_itself(byte: u8) -> bool
-    ensures value { result ≡ isItself (classKind byte) }
+    ensures value { result ≡ is_itself (class_kind byte) }
 {
     match byte as char {
         '[' | ']' | '\\' | '-' | '^' => false,
@@ -56,7 +56,7 @@ impl Progress {
 
     // The members that are finished once `byte` has been taken.
     fn finished<T: Gathering>(self, found: &T, byte: u8) -> T
-        ensures value { (rs : List Range) → T.Gathering.holds found.now rs → T.Gathering.holds result (rs ++ doneBy self byte) }
+        ensures value { (rs : List Range) → T.Gathering.holds found.now rs → T.Gathering.holds result (rs ++ done_by self byte) }
     {
         match self {
             Progress::Empty => *found,

@@ -8,7 +8,7 @@ use Rattle.roll.specs.Calls.{Answer, refused}
 use Rattle.roll.specs.Refusals.{withdrawal, fault, unless, first, is_held, tables, room, refusal}
 use Rattle.roll.specs.Sizes.{allowed}
 use Rattle.roll.specs.Stands.{slots}
-use Rattle.roll.specs.Steps.{faultOf}
+use Rattle.roll.specs.Steps.{fault_of}
 use Rattle.roll.specs.declared.roll.Roll.{Roll}
 use Rattle.roll.specs.declared.slot.Slot.TheVariants.{Held, Empty}
 use Rattle.roll.proofs.Sizing.{sized_few}
@@ -33,8 +33,8 @@ tables_none n l t e =
 pub room_none : (n s l t : ℕ) → room n s l t ≡ None → s < n
 room_none n s l t e = ltb-true s n (unless_none (ltb s n) (fault NoSuchSlot s) (first_none (tables n l t) (unless (ltb s n) (fault NoSuchSlot s)) e).1)
 
-pub not_refused : (a : Answer) (f : Fault) → faultOf a ≡ None → a ≡ refused f → ⊥
-not_refused a f granted e = none≢some f (sym granted ∙ ap faultOf e)
+pub not_refused : (a : Answer) (f : Fault) → fault_of a ≡ None → a ≡ refused f → ⊥
+not_refused a f granted e = none≢some f (sym granted ∙ ap fault_of e)
 
 -- the tables and slots of a roll, by its size
 pub tables_at : (r : Roll) (l t : ℕ) → None ≡ tables r.size l t → tables (length (slots r)) l t ≡ None

@@ -16,12 +16,12 @@ use Rattle.roll.specs.Law.{plain, Newest, Law}
 use Rattle.roll.specs.Plain.{Plain, texts, whole, marks}
 use Rattle.roll.specs.Refusals.{Call, verdict, totals, culprit, refusal}
 use Rattle.roll.specs.Runs.{Event}
-use Rattle.roll.specs.Steps.{faultOf}
+use Rattle.roll.specs.Steps.{fault_of}
 use Rattle.roll.proofs.Granting.{not_refused}
 use Rattle.roll.proofs.Tracing.{traced}
 
 -- an answer that is no refusal is given by the plain roll
-given : (M : List ℕ → Type 0) (p : Plain) (c : Call) (l t : ℕ) (a : Answer) → faultOf a ≡ None → Answers M p c l t a → Gives M p c a
+given : (M : List ℕ → Type 0) (p : Plain) (c : Call) (l t : ℕ) (a : Answer) → fault_of a ≡ None → Answers M p c l t a → Gives M p c a
 given M p c l t a free says = go (refusal (marks p) c l t) says
   where
     go : (o : Option Fault) → MatchOption o (Gives M p c a) (λ f. a ≡ refused f) → Gives M p c a
@@ -29,7 +29,7 @@ given M p c l t a free says = go (refusal (marks p) c l t) says
     go (Some f) e = absurd (not_refused a f free e)
 
 module _ {L : Type 0} (leg : List ℕ → L) (M : List ℕ → Type 0) where
-  newest : (h : List Event) (c : Call) (a : Answer) → faultOf a ≡ None → Newest leg M h c a → Gives M (plain h) c a × AllBytes (texts (plain h))
+  newest : (h : List Event) (c : Call) (a : Answer) → fault_of a ≡ None → Newest leg M h c a → Gives M (plain h) c a × AllBytes (texts (plain h))
   newest h c a free n =
       let e = n.1 in
       let tr = traced leg M n.2 in
@@ -59,7 +59,7 @@ module _ {L : Type 0} (leg : List ℕ → L) (M : List ℕ → Type 0) where
       named_same : (x y : Option ℕ) → named x ≡ named y → x ≡ y
       named_same x y e = cc
 
-  pub whole_bytes : (h : List Event) (c : Call) (a : Answer) → faultOf a ≡ None → Newest leg M h c a → Bytes (whole (plain h))
+  pub whole_bytes : (h : List Event) (c : Call) (a : Answer) → fault_of a ≡ None → Newest leg M h c a → Bytes (whole (plain h))
   whole_bytes h c a free n = bytes_together (texts (plain h)) (newest h c a free n).1
 
 -- none is named exactly when some text that follows the whole could lead to a yes

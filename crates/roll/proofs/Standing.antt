@@ -14,7 +14,7 @@ use Rattle.roll.specs.Plain.{Plain, texts, whole, mark, marks}
 use Rattle.roll.specs.Sizes.{sized}
 use Rattle.roll.specs.Refusals.{Call, fault, unless, first, tables, refusal}
 use Rattle.roll.specs.Stands.{State, slots, Stands}
-use Rattle.roll.specs.Steps.{refusalAt}
+use Rattle.roll.specs.Steps.{refusal_at}
 use Rattle.roll.specs.declared.roll.Roll.{Roll}
 use Rattle.roll.specs.declared.slot.Slot.TheVariants.{Empty}
 use Rattle.roll.proofs.Sizing.{sized_cases, sized_few}
@@ -29,7 +29,7 @@ module _ {L : Type 0} {leg : List ℕ → L} {s : State L} {p : Plain} (stands :
   pub stands_sized : sized (length p) ≡ true
   stands_sized = subst (λ n. sized n ≡ true) stands_size s.roll.few
 
-  pub stands_refusal : (c : Call) → refusalAt s c ≡ refusal (marks p) c (length s.legs) (length s.tallies)
+  pub stands_refusal : (c : Call) → refusal_at s c ≡ refusal (marks p) c (length s.legs) (length s.tallies)
   stands_refusal c = ap (λ x. refusal x c (length s.legs) (length s.tallies)) stands.held
 
   -- the lent tables are those of its slots

@@ -13,7 +13,7 @@ use Rattle.roll.specs.Plain.{texts, marks}
 use Rattle.roll.specs.Refusals.{Call, opening, filing, withdrawal, verdict, totals, culprit, refusal}
 use Rattle.roll.specs.Runs.{Fed, begun, more, full, back, Called, opens, files, withdraws, judges, adds, blames, Event, Run, made, granted, opened, refused}
 use Rattle.roll.specs.Stands.{State, slots, Stands, Holds}
-use Rattle.roll.specs.Steps.{faultOf, heard, refusalAt, Does, Opens, AsMade}
+use Rattle.roll.specs.Steps.{fault_of, heard, refusal_at, Does, Opens, AsMade}
 use Rattle.roll.specs.declared.strip.Strip.{Strip}
 use Rattle.roll.proofs.Granting.{refused_not_none}
 use Rattle.roll.proofs.Standing.{stands_refusal}
@@ -30,9 +30,9 @@ module _ {L : Type 0} (leg : List ℕ → L) (M : List ℕ → Type 0) where
   opens_does (Err f) h = record { refuses = h.refuses; keeps = λ p stands free. absurd (refused_not_none _ f h.refuses.which free) }
 
   -- a granted opening, whatever the roll and its cells held
-  opening_keeps : {was is : State L} {n : ℕ} {a : Answer} → Called leg M was (opening n) a is → faultOf a ≡ None → (refusalAt was (opening n) ≡ None) × (a ≡ done) × Stands leg is (replicate n None)
+  opening_keeps : {was is : State L} {n : ℕ} {a : Answer} → Called leg M was (opening n) a is → fault_of a ≡ None → (refusal_at was (opening n) ≡ None) × (a ≡ done) × Stands leg is (replicate n None)
   opening_keeps (opens (Ok x) h e) free = (h.refuses.which, e, h.keeps h.refuses.which)
-  opening_keeps (opens (Err f) h e) free = absurd (refused_not_none _ f (ap faultOf e) free)
+  opening_keeps (opens (Err f) h e) free = absurd (refused_not_none _ f (ap fault_of e) free)
 
   -- whichever call it is
   pub called_does : {was is : State L} {c : Call} {a : Answer} → Called leg M was c a is → Does leg M was c a is
@@ -91,5 +91,5 @@ module _ {L : Type 0} (leg : List ℕ → L) (M : List ℕ → Type 0) where
       step_granted s is h (opening n) a _ _ (traced run) kept.0 kept.1 kept.2
   traced (refused {s = s} {h = h} {c = c} {a = a} lent is f run same call says) =
       let so_far = traced run in
-      let which = (called_does call).refuses.which ∙ ap faultOf says in
+      let which = (called_does call).refuses.which ∙ ap fault_of says in
       step_refused s h c a _ _ f so_far (ap (λ x. refusal x c (length lent.legs) (length lent.tallies)) (sym (ap slots same ∙ so_far.stands.held)) ∙ which) says

@@ -13,7 +13,7 @@ use Rattle.roll.specs.Calls as calls
 use Rattle.roll.specs.Calls.{Answer, done, tallied, judged, named}
 use Rattle.roll.specs.Refusals.{Call, opening, filing, withdrawal, verdict, totals, culprit}
 use Rattle.roll.specs.Stands.{State}
-use Rattle.roll.specs.Steps.{faultOf, heard, heardBack, Does, Opens, Files, AsMade, Begins, Feeds}
+use Rattle.roll.specs.Steps.{fault_of, heard, heard_back, Does, Opens, Files, AsMade, Begins, Feeds}
 use Rattle.roll.specs.declared.strip.Returned.{Returned}
 use Rattle.roll.specs.declared.strip.Strip.{Strip}
 
@@ -25,7 +25,7 @@ pub data Fed {L : Type 0} (leg : List ℕ → L) (M : List ℕ → Type 0) : Str
 
 pub data Called {L : Type 0} (leg : List ℕ → L) (M : List ℕ → Type 0) : State L → Call → Answer → State L → Type 0 where
   opens : {was is : State L} {n : ℕ} {a : Answer} (r : Result (Unit {0}) Fault) → Opens leg was n r is → a ≡ heard (λ _. done) r → Called leg M was (opening n) a is
-  files : {was is : State L} {n : ℕ} {w : List ℕ} {a : Answer} (s : Strip L) (r : Result Tally (Returned L)) → Fed leg M s w → Files leg M was n s r is → a ≡ heardBack r → Called leg M was (filing n w) a is
+  files : {was is : State L} {n : ℕ} {w : List ℕ} {a : Answer} (s : Strip L) (r : Result Tally (Returned L)) → Fed leg M s w → Files leg M was n s r is → a ≡ heard_back r → Called leg M was (filing n w) a is
   withdraws : {was is : State L} {n : ℕ} {a : Answer} (r : Result (Unit {0}) Fault) → Does leg M was (withdrawal n) (heard (λ _. done) r) is → a ≡ heard (λ _. done) r → Called leg M was (withdrawal n) a is
   judges : {s : State L} {a : Answer} (r : Result Bool Fault) → Does leg M s verdict (heard judged r) s → a ≡ heard judged r → Called leg M s verdict a s
   adds : {s : State L} {a : Answer} (r : Result Tally Fault) → Does leg M s totals (heard tallied r) s → a ≡ heard tallied r → Called leg M s totals a s
@@ -43,6 +43,6 @@ event lent c a = record { call = c; legs = length lent.legs; tallies = length le
 
 pub data Run {L : Type 0} (leg : List ℕ → L) (M : List ℕ → Type 0) : State L → List Event → Type 0 where
   made : {s : State L} → AsMade s.roll → s.legs ≡ [] → s.tallies ≡ [] → Run leg M s []
-  granted : {s is : State L} {h : List Event} {c : Call} {a : Answer} → Run leg M s h → Called leg M s c a is → faultOf a ≡ None → Run leg M is (event s c a ∷ h)
-  opened : {s is : State L} {h : List Event} {n : ℕ} {a : Answer} (lent : State L) → Run leg M s h → lent.roll ≡ s.roll → Called leg M lent (opening n) a is → faultOf a ≡ None → Run leg M is (event lent (opening n) a ∷ h)
+  granted : {s is : State L} {h : List Event} {c : Call} {a : Answer} → Run leg M s h → Called leg M s c a is → fault_of a ≡ None → Run leg M is (event s c a ∷ h)
+  opened : {s is : State L} {h : List Event} {n : ℕ} {a : Answer} (lent : State L) → Run leg M s h → lent.roll ≡ s.roll → Called leg M lent (opening n) a is → fault_of a ≡ None → Run leg M is (event lent (opening n) a ∷ h)
   refused : {s : State L} {h : List Event} {c : Call} {a : Answer} (lent is : State L) (f : Fault) → Run leg M s h → lent.roll ≡ s.roll → Called leg M lent c a is → a ≡ calls.refused f → Run leg M s (event lent c a ∷ h)

@@ -26,32 +26,32 @@ use Rattle.roll.specs.declared.strip.Returned.{Returned}
 use Rattle.roll.specs.declared.strip.Strip.{Strip}
 
 -- the fault of a refused call
-abbrev pub faultOf : Answer → Option Fault
-faultOf done = None
-faultOf (tallied t) = None
-faultOf (judged b) = None
-faultOf (named c) = None
-faultOf (refused f) = Some f
+abbrev pub fault_of : Answer → Option Fault
+fault_of done = None
+fault_of (tallied t) = None
+fault_of (judged b) = None
+fault_of (named c) = None
+fault_of (refused f) = Some f
 
 -- what a call answers, as data
 abbrev pub heard : {X : Type 0} → (X → Answer) → Result X Fault → Answer
 heard say (Ok x) = say x
 heard say (Err f) = refused f
 
-abbrev pub heardBack : {L : Type 0} → Result Tally (Returned L) → Answer
-heardBack (Ok t) = tallied t
-heardBack (Err e) = refused e.fault
+abbrev pub heard_back : {L : Type 0} → Result Tally (Returned L) → Answer
+heard_back (Ok t) = tallied t
+heard_back (Err e) = refused e.fault
 
 -- the fault of a call on this state
-abbrev pub refusalAt : {L : Type 0} → State L → Call → Option Fault
-refusalAt s c = refusal (slots s.roll) c (length s.legs) (length s.tallies)
+abbrev pub refusal_at : {L : Type 0} → State L → Call → Option Fault
+refusal_at s c = refusal (slots s.roll) c (length s.legs) (length s.tallies)
 
 pub record Refuses {L : Type 0} (was : State L) (c : Call) (a : Answer) (is : State L) : Type 0 where
-  pub which : refusalAt was c ≡ faultOf a
+  pub which : refusal_at was c ≡ fault_of a
   pub same : (f : Fault) → a ≡ refused f → is ≡ was
 
 abbrev pub Keeps : {L : Type 0} → (List ℕ → L) → (List ℕ → Type 0) → State L → Call → Answer → State L → Type 0
-Keeps leg M was c a is = (p : Plain) → Stands leg was p → refusalAt was c ≡ None → Gives M p c a × Stands leg is (after p c)
+Keeps leg M was c a is = (p : Plain) → Stands leg was p → refusal_at was c ≡ None → Gives M p c a × Stands leg is (after p c)
 
 pub record Does {L : Type 0} (leg : List ℕ → L) (M : List ℕ → Type 0) (was : State L) (c : Call) (a : Answer) (is : State L) : Type 0 where
   pub refuses : Refuses was c a is
@@ -59,12 +59,12 @@ pub record Does {L : Type 0} (leg : List ℕ → L) (M : List ℕ → Type 0) (w
 
 pub record Opens {L : Type 0} (leg : List ℕ → L) (was : State L) (n : ℕ) (r : Result (Unit {0}) Fault) (is : State L) : Type 0 where
   pub refuses : Refuses was (opening n) (heard (λ _. done) r) is
-  pub keeps : refusalAt was (opening n) ≡ None → Stands leg is (replicate n None)
+  pub keeps : refusal_at was (opening n) ≡ None → Stands leg is (replicate n None)
 
 pub record Files {L : Type 0} (leg : List ℕ → L) (M : List ℕ → Type 0) (was : State L) (s : ℕ) (strip : Strip L) (r : Result Tally (Returned L)) (is : State L) : Type 0 where
-  pub refuses : Refuses was (filing s []) (heardBack r) is
+  pub refuses : Refuses was (filing s []) (heard_back r) is
   pub back : IfErr r (λ e. e.strip ≡ strip)
-  pub keeps : (w : List ℕ) → Holds leg strip w → Keeps leg M was (filing s w) (heardBack r) is
+  pub keeps : (w : List ℕ) → Holds leg strip w → Keeps leg M was (filing s w) (heard_back r) is
 
 -- a roll with no slots
 abbrev pub AsMade : Roll → Type 0

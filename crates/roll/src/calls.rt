@@ -4,7 +4,7 @@ ghost use Rattle.folding.specs.Texts.{Bytes};
 ghost use Rattle.std.specs.Result.{result_err};
 ghost use Rattle.roll.specs.Calls.{done, tallied, judged, named};
 ghost use Rattle.roll.specs.Law.{Law};
-ghost use Rattle.roll.specs.Refusals.{withdrawal, verdict, totals, culprit, fault as fault_of, tables, room};
+ghost use Rattle.roll.specs.Refusals.{withdrawal, verdict, totals, culprit, fault as fault_at, tables, room};
 ghost use Rattle.roll.specs.Sizes.{allowed as allowed_size};
 ghost use Rattle.roll.specs.Stands.{state};
 ghost use Rattle.roll.specs.Steps.{heard, AsMade, Opens, Files, Does};
@@ -25,7 +25,7 @@ fn allowed(n: usize) -> bool
 }
 
 fn refuse(refusal: Refusal, place: usize) -> Fault
-    ensures value { result ≡ fault_of refusal place }
+    ensures value { result ≡ fault_at refusal place }
 {
     Fault {
         refusal,

@@ -2,7 +2,7 @@ use Rattle.std.proofs.Common.{sym, refl}
 use Rattle.std.proofs.lemmas.Result.{err_from_is_err_and}
 use Rattle.std.proofs.lemmas.Bool.{lt-leb}
 use Rattle.pattern.proofs.SignWays.{class_stops, class_part}
-use Rattle.pattern.proofs.SignShapes.{no_class}
+use Rattle.pattern.proofs.SignShapes.{no_class_lem}
 use Rattle.pattern.proofs.sign.class_sign.Goals as goal
 
 pub returns-in_err-end : goal.returns-in_err-end
@@ -10,7 +10,7 @@ returns-in_err-end c =
     let p = err_from_is_err_and c.from_residual.result c.from_residual.ensures.1 in
     let (lt, is) = c.requires.bracket in
     let refused = c.in_err-end.ensures.cases in
-    record { cases = rw (p.1, p.2) (record { none = no_class _ _ lt _ _ is refused; stops = class_stops _ _ lt _ _ is refused.stops }) }
+    record { cases = rw (p.1, p.2) (record { none = no_class_lem _ _ lt _ _ is refused; stops = class_stops _ _ lt _ _ is refused.stops }) }
 
 pub returns : goal.returns
 returns c =
