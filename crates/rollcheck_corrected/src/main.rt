@@ -2,14 +2,12 @@
 #![tactic(auto)]
 
 use bundle::check::answer;
+use bundle::enough::enough;
 use std::io::Read;
-
-// One byte more than a bundle may have tells that it is too long, whatever follows.
-const ENOUGH: u64 = 32769;
 
 fn run(rt: &HostRuntime) -> anyhow::Result<()> {
     let mut input = Vec::new(rt.alloc());
-    rt.stdin().take(ENOUGH).read_to_end(&mut input)?;
+    rt.stdin().take(enough() as u64).read_to_end(&mut input)?;
     rt.println(answer(rt.alloc(), input.as_slice())?)?;
     Ok(())
 }
