@@ -3,7 +3,7 @@ use Rattle.std.proofs.Common.{◌≡◌, ℕ, false, cond, ◌&&◌, eqb, leb, L
 use Rattle.std.proofs.lemmas.Bool.{cond_both, true≢false, eqb-true}
 use Rattle.pattern.specs.declared.class.Progress.{Progress}
 use Rattle.pattern.specs.declared.class.Progress.TheVariants.{Empty, Between, Member, Dash, Escape, DashEscape}
-use Rattle.pattern.specs.Characters.{ClassKind, ends, slash, hyphen, barred, itself, is_itself, class_kind, escapable}
+use Rattle.pattern.specs.Characters.{ClassKind, ends, slash, hyphen, barred, itself, kind_is_itself, class_kind, escapable}
 use Rattle.pattern.specs.Expressions.{Range}
 use Rattle.pattern.specs.Automaton.{fresh, in_escape, member, dashed, dashed_escape, ClassNext, no_class, inside, finished, class_next}
 use Rattle.pattern.specs.Classes.{state_of, done_by}
@@ -27,8 +27,8 @@ fresh_done barred b rs = tt
 fresh_done itself b rs = same rs
 
 -- a byte with no office is none of those that have one
-not_itself : (b c : ℕ) → is_itself (class_kind c) ≡ false → class_kind b ≡ itself → (x y : List Range) (P : List Range → Type 0) → P y → P (cond (eqb b c) x y)
-not_itself b c is none x y P h = cond_both (eqb b c) x y P (λ e. absurd (true≢false (sym (ap is_itself none) ∙ ap (λ n. is_itself (class_kind n)) (eqb-true b c e) ∙ is))) (λ _. h)
+not_itself : (b c : ℕ) → kind_is_itself (class_kind c) ≡ false → class_kind b ≡ itself → (x y : List Range) (P : List Range → Type 0) → P y → P (cond (eqb b c) x y)
+not_itself b c is none x y P h = cond_both (eqb b c) x y P (λ e. absurd (true≢false (sym (ap kind_is_itself none) ∙ ap (λ n. kind_is_itself (class_kind n)) (eqb-true b c e) ∙ is))) (λ _. h)
 
 member_done : (k : ClassKind) (a b : ℕ) (rs : List Range) → class_kind b ≡ k → InClass k b → Done (class_next k b rs (member a)) (rs ++ cond (eqb b 45) [] ((a, a) ∷ []))
 member_done ends a b rs is told = ap (λ n. rs ++ cond (eqb n 45) [] ((a, a) ∷ [])) (sym told)

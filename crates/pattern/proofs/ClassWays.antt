@@ -6,7 +6,7 @@ use Rattle.pattern.specs.declared.class.Progress.{Progress}
 use Rattle.pattern.specs.declared.class.Progress.TheVariants.{Empty, Between, Member, Dash, Escape, DashEscape}
 use Rattle.pattern.specs.declared.class.Taken.{Taken}
 use Rattle.pattern.specs.declared.class.Taken.TheVariants.{Inside, Ended}
-use Rattle.pattern.specs.Characters.{ClassKind, ends, slash, hyphen, barred, itself, is_itself, class_kind, escapable}
+use Rattle.pattern.specs.Characters.{ClassKind, ends, slash, hyphen, barred, itself, kind_is_itself, class_kind, escapable}
 use Rattle.pattern.specs.Expressions.{Range}
 use Rattle.pattern.specs.Automaton.{class_next, fresh, member, dashed}
 use Rattle.pattern.specs.Classes.{Follows}
@@ -15,7 +15,7 @@ push_some : (rs : List Range) (r : Range) → 0 < length (rs ++ r ∷ [])
 push_some rs r = rw length-append (omega arith)
 
 -- a byte with no office in a class
-pub itself_is : (k : ClassKind) → true ≡ is_itself k → k ≡ itself
+pub itself_is : (k : ClassKind) → true ≡ kind_is_itself k → k ≡ itself
 itself_is ends e = absurd (true≢false e)
 itself_is slash e = absurd (true≢false e)
 itself_is hyphen e = absurd (true≢false e)

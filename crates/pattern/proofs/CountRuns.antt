@@ -4,7 +4,7 @@ use Rattle.std.proofs.lemmas.Fmt.{decimal_digit, decimal_step}
 use Rattle.std.proofs.lemmas.Bool.{le-leb, cond-true, and_from, or_left, or_right, cases_lt}
 use Rattle.pattern.specs.Expressions.{Regex, counted}
 use Rattle.pattern.specs.Grammar.{Counts, exactly, between}
-use Rattle.pattern.specs.Automaton.{Frame, State, state, ready, in_count, CountState, awaiting, digits, Stage, least, most, bound, can_begin, can_go_on, count_next, of_count, push, verdict}
+use Rattle.pattern.specs.Automaton.{Frame, State, state, ready, in_count, CountState, awaiting, digits, Stage, least, most, bound, count_can_begin, count_can_go_on, count_next, of_count, push, verdict}
 use Rattle.pattern.proofs.Chars.{digit_kind}
 use Rattle.pattern.proofs.Runs.{verdict_alive}
 
@@ -16,11 +16,11 @@ module _ (f : Regex) (fr : Frame) (d : ℕ) (ctx : List Frame) where
   abbrev pub at : CountState → State
   at c = state (in_count f c) fr d ctx
 
-  begins : (s : Stage) (k : ℕ) (w : List ℕ) → k < 10 → can_begin (bound s) k ≡ true → verdict (at (awaiting s)) ((48 + k) ∷ w) ≡ verdict (at (digits s k)) w
+  begins : (s : Stage) (k : ℕ) (w : List ℕ) → k < 10 → count_can_begin (bound s) k ≡ true → verdict (at (awaiting s)) ((48 + k) ∷ w) ≡ verdict (at (digits s k)) w
   begins s k w small can =
       verdict_alive _ _ (48 + k) w (ap (λ t. of_count (count_next t (awaiting s)) f fr d ctx) (digit_kind k small) ∙ ap (λ n. of_count n f fr d ctx) (cond-true _ _ _ can))
 
-  pub goes_on : (s : Stage) (n k : ℕ) (w : List ℕ) → k < 10 → can_go_on (bound s) n k ≡ true → verdict (at (digits s n)) ((48 + k) ∷ w) ≡ verdict (at (digits s (10 * n + k))) w
+  pub goes_on : (s : Stage) (n k : ℕ) (w : List ℕ) → k < 10 → count_can_go_on (bound s) n k ≡ true → verdict (at (digits s n)) ((48 + k) ∷ w) ≡ verdict (at (digits s (10 * n + k))) w
   goes_on s n k w small can =
       verdict_alive _ _ (48 + k) w (ap (λ t. of_count (count_next t (digits s n)) f fr d ctx) (digit_kind k small) ∙ ap (λ n. of_count n f fr d ctx) (cond-true _ _ _ can))
 

@@ -3,7 +3,7 @@ use Rattle.std.proofs.Common.{◌≡◌, ℕ, ◌+◌, ◌*◌, ◌/◌, ◌%◌
 use Rattle.std.proofs.lemmas.Fmt.{decimal_digit, decimal_step}
 use Rattle.std.proofs.lemmas.Bool.{cond_both, leb-true, and_parts, or_cases}
 use Rattle.pattern.specs.Grammar.{Counts, exactly, between}
-use Rattle.pattern.specs.Automaton.{CountState, CountKind, awaiting, digits, digit, comma, ended, other, Stage, least, most, bound, can_begin, can_go_on, count_kind, count_next, CountNext, no_count, counting, counts}
+use Rattle.pattern.specs.Automaton.{CountState, CountKind, awaiting, digits, digit, comma, ended, other, Stage, least, most, bound, count_can_begin, count_can_go_on, count_kind, count_next, CountNext, no_count, counting, counts}
 use Rattle.pattern.proofs.Chars.{InCount, in_count_lem}
 use Rattle.pattern.proofs.Seen.{Before, Hopeful, Count}
 
@@ -12,7 +12,7 @@ Goes no_count y b = Unit {0}
 Goes (counting c) y b = Count c (y ++ b ∷ [])
 Goes (counts m n) y b = Counts (y ++ b ∷ []) m n
 
-hopeful : (m k : ℕ) → can_begin m k ≡ true → Hopeful m k
+hopeful : (m k : ℕ) → count_can_begin m k ≡ true → Hopeful m k
 hopeful m k e =
     ⊎_elim (λ h. inl (leb-true m k h))
     (λ h. let p = and_parts _ _ h in let q = and_parts _ _ p.1 in inr (leb-true 1 k p.0, leb-true k 3 q.0, leb-true m _ q.1))
@@ -27,7 +27,7 @@ decimal_more n k some small last =
 first_digit : (s : Stage) (y : List ℕ) (k : ℕ) → k < 10 → Before s y → Hopeful (bound s) k → Count (digits s k) (y ++ (48 + k) ∷ [])
 first_digit s y k small before can = (y, ap (λ l. y ++ l) (sym (decimal_digit k small)), before, omega arith, can)
 
-next_digit : (s : Stage) (n k : ℕ) (y : List ℕ) → k < 10 → Count (digits s n) y → can_go_on (bound s) n k ≡ true → Count (digits s (10 * n + k)) (y ++ (48 + k) ∷ [])
+next_digit : (s : Stage) (n k : ℕ) (y : List ℕ) → k < 10 → Count (digits s n) y → count_can_go_on (bound s) n k ≡ true → Count (digits s (10 * n + k)) (y ++ (48 + k) ∷ [])
 next_digit s n k y small (x, is, before, hi, hope) e =
     let p = and_parts _ _ e in
     let q = and_parts _ _ p.1 in
@@ -38,13 +38,13 @@ next_digit s n k y small (x, is, before, hi, hope) e =
 
 goes : (b : ℕ) (k : CountKind) → InCount k b → (c : CountState) (y : List ℕ) → Count c y → Goes (count_next k c) y b
 goes b (digit k) (is, small) (awaiting s) y seen =
-    cond_both (can_begin (bound s) k) _ _ (λ n. Goes n y b)
+    cond_both (count_can_begin (bound s) k) _ _ (λ n. Goes n y b)
     (λ e. subst (λ x. Count (digits s k) (y ++ x ∷ [])) (sym is) (first_digit s y k small seen (hopeful (bound s) k e))) (λ _. tt)
 goes b comma is (awaiting s) y seen = tt
 goes b ended is (awaiting s) y seen = tt
 goes b other is (awaiting s) y seen = tt
 goes b (digit k) (is, small) (digits s n) y seen =
-    cond_both (can_go_on (bound s) n k) _ _ (λ m. Goes m y b)
+    cond_both (count_can_go_on (bound s) n k) _ _ (λ m. Goes m y b)
     (λ e. subst (λ x. Count (digits s (10 * n + k)) (y ++ x ∷ [])) (sym is) (next_digit s n k y small seen e)) (λ _. tt)
 goes b comma is (digits least n) y (x, whole, before, hi, hope) = ((λ i. (whole ∙ ap (λ l. l ++ decimal n) before) i ++ is i ∷ []), hi)
 goes b comma is (digits (most m) n) y seen = tt

@@ -9,7 +9,7 @@ use Rattle.fault.specs.declared.Fault.{Fault}
 use Rattle.fault.specs.declared.Refusal.TheVariants.{BadlyWritten}
 use Rattle.pattern.specs.Expressions.{empty}
 use Rattle.pattern.specs.Grammar.{Counts, exactly, between}
-use Rattle.pattern.specs.Automaton.{state, in_count, awaiting, digits, CountKind, digit, comma, ended, other, no_count, least, most, can_go_on, count_next, of_count, opened, bad, verdict}
+use Rattle.pattern.specs.Automaton.{state, in_count, awaiting, digits, CountKind, digit, comma, ended, other, no_count, least, most, count_can_go_on, count_next, of_count, opened, bad, verdict}
 use Rattle.pattern.specs.Refusals.{Stops, refused}
 use Rattle.pattern.specs.Repeats.{NumberRead, NumberRefused, CountsRead, CountsStop, CountsRefused}
 use Rattle.pattern.proofs.Chars.{InCount, in_count_lem}
@@ -18,14 +18,14 @@ use Rattle.pattern.proofs.Faults.{unread}
 use Rattle.pattern.proofs.Slices.{drop_is, moves, stops_at, stopped}
 
 -- after the first count only a brace or a comma goes on
-first_stuck : (k : CountKind) (b n : ℕ) → InCount k b → (b ≡ 125 → ⊥) → (b ≡ 44 → ⊥) → ((j : ℕ) → k ≡ digit j → can_go_on 0 n j ≡ false) → count_next k (digits least n) ≡ no_count
+first_stuck : (k : CountKind) (b n : ℕ) → InCount k b → (b ≡ 125 → ⊥) → (b ≡ 44 → ⊥) → ((j : ℕ) → k ≡ digit j → count_can_go_on 0 n j ≡ false) → count_next k (digits least n) ≡ no_count
 first_stuck (digit j) b n is no_end no_comma stuck = cond-false _ _ _ (stuck j refl)
 first_stuck comma b n is no_end no_comma stuck = absurd (no_comma is)
 first_stuck ended b n is no_end no_comma stuck = absurd (no_end is)
 first_stuck other b n is no_end no_comma stuck = refl
 
 -- after the second only a brace, if the most is not below the least
-second_stuck : (k : CountKind) (b m n : ℕ) → InCount k b → (b ≡ 125 → m ≤ n → ⊥) → ((j : ℕ) → k ≡ digit j → can_go_on m n j ≡ false) → count_next k (digits (most m) n) ≡ no_count
+second_stuck : (k : CountKind) (b m n : ℕ) → InCount k b → (b ≡ 125 → m ≤ n → ⊥) → ((j : ℕ) → k ≡ digit j → count_can_go_on m n j ≡ false) → count_next k (digits (most m) n) ≡ no_count
 second_stuck (digit j) b m n is no_end stuck = cond-false _ _ _ (stuck j refl)
 second_stuck comma b m n is no_end stuck = refl
 second_stuck ended b m n is no_end stuck = cond-false (leb m n) _ _ (lt-leb m n (⊎_elim (λ h. h) (λ le. absurd (no_end is le)) (cases_lt n m)))

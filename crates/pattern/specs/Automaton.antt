@@ -103,19 +103,19 @@ bound least = 0
 bound (most m) = m
 
 -- the digit k alone, or with one more behind it, can be a count from m to 32
-abbrev pub can_begin : ℕ → ℕ → Bool
-can_begin m k = nat_le m k || (nat_le 1 k && (nat_le k 3 && nat_le m (10 * k + 9)))
+abbrev pub count_can_begin : ℕ → ℕ → Bool
+count_can_begin m k = nat_le m k || (nat_le 1 k && (nat_le k 3 && nat_le m (10 * k + 9)))
 
 -- n with the digit k behind it is a count from m to 32
-abbrev pub can_go_on : ℕ → ℕ → ℕ → Bool
-can_go_on m n k = nat_le 1 n && (nat_le m (10 * n + k) && nat_le (10 * n + k) 32)
+abbrev pub count_can_go_on : ℕ → ℕ → ℕ → Bool
+count_can_go_on m n k = nat_le 1 n && (nat_le m (10 * n + k) && nat_le (10 * n + k) 32)
 
 abbrev pub count_next : CountKind → CountState → CountNext
-count_next (digit k) (awaiting s) = cond (can_begin (bound s) k) (counting (digits s k)) no_count
+count_next (digit k) (awaiting s) = cond (count_can_begin (bound s) k) (counting (digits s k)) no_count
 count_next comma (awaiting s) = no_count
 count_next ended (awaiting s) = no_count
 count_next other (awaiting s) = no_count
-count_next (digit k) (digits s n) = cond (can_go_on (bound s) n k) (counting (digits s (10 * n + k))) no_count
+count_next (digit k) (digits s n) = cond (count_can_go_on (bound s) n k) (counting (digits s (10 * n + k))) no_count
 count_next comma (digits least n) = counting (awaiting (most n))
 count_next comma (digits (most m) n) = no_count
 count_next ended (digits least n) = counts n n

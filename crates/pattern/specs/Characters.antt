@@ -40,9 +40,9 @@ pub data ClassKind : Type 0 where
 abbrev pub class_kind : ℕ → ClassKind
 class_kind b = cond (b == 93) ends (cond (b == 92) slash (cond (b == 45) hyphen (cond (b == 91) barred (cond (b == 94) barred itself))))
 
-abbrev pub is_itself : ClassKind → Bool
-is_itself ends = false
-is_itself slash = false
-is_itself hyphen = false
-is_itself barred = false
-is_itself itself = true
+abbrev pub kind_is_itself : ClassKind → Bool
+kind_is_itself ends = false
+kind_is_itself slash = false
+kind_is_itself hyphen = false
+kind_is_itself barred = false
+kind_is_itself itself = true

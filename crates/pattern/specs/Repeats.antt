@@ -9,7 +9,7 @@ use Rattle.fault.specs.declared.Fault.{Fault}
 use Rattle.fault.specs.declared.Refusal.TheVariants.{BadlyWritten}
 use Rattle.pattern.specs.Expressions.{Regex}
 use Rattle.pattern.specs.Grammar.{Counts}
-use Rattle.pattern.specs.Automaton.{Frame, state, in_count, awaiting, digits, Stage, least, bound, can_go_on, count_kind, digit, verdict}
+use Rattle.pattern.specs.Automaton.{Frame, state, in_count, awaiting, digits, Stage, least, bound, count_can_go_on, count_kind, digit, verdict}
 use Rattle.pattern.specs.Refusals.{Stops, refused}
 
 pub record NumberRead (p : List ℕ) (at low n end : ℕ) : Type 0 where
@@ -17,7 +17,7 @@ pub record NumberRead (p : List ℕ) (at low n end : ℕ) : Type 0 where
   pub long : at + length (decimal n) ≡ end
   pub text : drop at p ≡ decimal n ++ drop end p
   pub small : n ≤ 32
-  pub stuck : (k : ℕ) → count_kind (slice_index p end) ≡ digit k → end < length p → can_go_on low n k ≡ false
+  pub stuck : (k : ℕ) → count_kind (slice_index p end) ≡ digit k → end < length p → count_can_go_on low n k ≡ false
   pub runs : (s : Stage) → bound s ≡ low → (e : Regex) (fr : Frame) (d : ℕ) (ctx : List Frame)
       → verdict (state (in_count e (awaiting s)) fr d ctx) (drop at p) ≡ verdict (state (in_count e (digits s n)) fr d ctx) (drop end p)
 

@@ -1,6 +1,6 @@
 // The class, from after its bracket: its state and the next byte together decide.
 ghost use Rattle.std.specs.Prelude.{◌≡◌, ◌≤◌, List, ◌++◌, length, MatchResult};
-ghost use Rattle.pattern.specs.Characters.{escapable, class_kind, is_itself};
+ghost use Rattle.pattern.specs.Characters.{escapable, class_kind, kind_is_itself};
 ghost use Rattle.pattern.specs.Expressions.{Range};
 ghost use Rattle.pattern.specs.Classes.{Follows, done_by, ClassHeard, ClassRead, ClassRefused};
 
@@ -37,7 +37,7 @@ pub(crate) fn is_escapable(byte: u8) -> bool
 
 // What has no office inside a class.
 fn is_itself(byte: u8) -> bool
-    ensures value { result ≡ is_itself (class_kind byte) }
+    ensures value { result ≡ kind_is_itself (class_kind byte) }
 {
     match byte as char {
         '[' | ']' | '\\' | '-' | '^' => false,

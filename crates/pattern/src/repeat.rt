@@ -1,6 +1,6 @@
 // The counted repeat, from after its brace: a least and a most count, or one for both.
 ghost use Rattle.std.specs.Prelude.{◌≡◌, ℕ, ◌+◌, ◌<◌, ◌≤◌, length, Decides, MatchOption, MatchResult, slice_index};
-ghost use Rattle.pattern.specs.Automaton.{count_kind, digit, can_begin, can_go_on};
+ghost use Rattle.pattern.specs.Automaton.{count_kind, digit, count_can_begin, count_can_go_on};
 ghost use Rattle.pattern.specs.Repeats.{NumberRead, NumberRefused, CountsRead, CountsRefused};
 
 use crate::refusal::badly_written;
@@ -23,7 +23,7 @@ fn digit_at(p: &[u8], at: usize) -> Option<u8>
 // Alone or with one more digit, `first` is a count from `least` to 32.
 fn can_begin(least: u8, first: u8) -> bool
     requires digit { first < 10 }
-    ensures value { result ≡ can_begin least first }
+    ensures value { result ≡ count_can_begin least first }
 {
     least <= first || (1 <= first && first <= 3 && least <= 10 * first + 9)
 }
@@ -31,7 +31,7 @@ fn can_begin(least: u8, first: u8) -> bool
 fn can_go_on(least: u8, first: u8, second: u8) -> bool
     requires first { first < 10 }
     requires second { second < 10 }
-    ensures value { result ≡ can_go_on least first second }
+    ensures value { result ≡ count_can_go_on least first second }
 {
     1 <= first && least <= 10 * first + second && 10 * first + second <= 32
 }
