@@ -12,7 +12,10 @@ use crate::bytes;
 use crate::walk::Strips;
 use fault::{Fault, Layer, Refusal};
 
-pub(crate) const LIMIT: usize = 32768;
+const LIMIT: usize = 32768;
+
+// What a longer input counts as, since nobody need read on to refuse it.
+pub(crate) const TOO_LONG: usize = LIMIT + 1;
 
 // A pattern and strips, in the bytes that the caller lent.
 #[derive(Clone, Copy)]
@@ -59,7 +62,6 @@ fn parted<'a>(input: &'a [u8]) -> Bundle<'a>
 }
 
 impl<'a> Bundle<'a> {
-    // A longer input counts as one byte more than the limit, since nobody need read on to refuse it.
     pub fn decode(input: &'a [u8]) -> Result<Bundle<'a>, Fault>
         ensures cases { MatchResult result (λ b. RightSize input.now × (input.now ≡ written (pattern_of b) (strips_of b))) (λ f. (RightSize input.now → ⊥) × (f ≡ wrong_size input.now)) }
         ensures bytes { IfOk result (λ b. Bytes (pattern_of b) × AllByRecursion OfBytes (strips_of b)) }
@@ -72,7 +74,7 @@ impl<'a> Bundle<'a> {
             Err(Fault {
                 refusal: Refusal::BundleSize,
                 layer: Layer::Bundle,
-                place: input.len().min(LIMIT + 1),
+                place: input.len().min(TOO_LONG),
             })
         }
     }

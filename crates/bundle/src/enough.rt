@@ -1,13 +1,11 @@
 // How much of an input decides what its check comes to.
-ghost use Rattle.std.specs.Prelude.{◌≡◌};
 ghost use Rattle.bundle.specs.Enough.{Enough};
 
 use crate::decode;
 
 // So many of the first bytes: with any others after them the check comes to the same.
 pub fn enough() -> usize
-    ensures value { result ≡ 32769 }
     ensures decides { Enough result }
 {
-    decode::LIMIT + 1
+    decode::TOO_LONG
 }

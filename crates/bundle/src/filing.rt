@@ -1,14 +1,13 @@
 // Files the strips of a bundle into a roll of 128 slots, and puts the questions to it.
-ghost use Rattle.std.specs.Prelude.{◌≡◌, ◌<◌, [], ◌∷◌, length};
-ghost use Rattle.std.specs.List.{AllByRecursion};
-ghost use Rattle.roll.specs.Calls.{after};
-ghost use Rattle.roll.specs.Plain.{Plain};
-ghost use Rattle.roll.specs.Stands.{state, Stands};
-ghost use Rattle.folding.specs.Texts.{Bytes};
-ghost use Rattle.bundle.specs.Filing.{Filed};
+ghost use Rattle.std.specs.Prelude.{◌<◌, List, ◌∷◌, length};
+ghost use Rattle.folding.specs.Tallies.{tally};
+ghost use Rattle.roll.specs.Calls.{tallied};
+ghost use Rattle.roll.specs.Runs.{Event, event, Run};
+ghost use Rattle.roll.specs.Stands.{state};
+ghost use Rattle.roll.specs.Steps.{heard};
 ghost use Rattle.bundle.specs.Handed.{piece, left};
-ghost use Rattle.bundle.specs.Layout.{OfBytes};
-ghost use Rattle.bundle.specs.Outcome.{opened, filed, Reported};
+ghost use Rattle.bundle.specs.History.{filing_of, Filings, Ran};
+ghost use Rattle.bundle.specs.Outcome.{begun, Reported};
 
 use crate::report::Report;
 use crate::walk::{Strip, Strips};
@@ -20,6 +19,7 @@ use roll::roll::Roll;
 
 const SLOTS: usize = 128;
 
+// Files one strip: a call more in whatever run led here.
 fn file_one<M: Judging>(
     roll: &mut Roll,
     machine: &M,
@@ -28,14 +28,12 @@ fn file_one<M: Judging>(
     strip: Strip,
 ) -> Result<(), Fault>
     requires short { length strip.text.now < 65536 }
-    ensures filed { (p : Plain) → length p ≡ 128 → Stands (M.Folding.leg machine.now) (state roll.old legs.old tallies.old) p → Filed (M.Folding.leg machine.now) (filed p (piece strip.entry ∷ [])) result (state roll.new legs.new tallies.new) }
+    ensures ran { (h : List Event) → Run (M.Folding.leg machine.now) (M.Judging.means machine.now) (state roll.old legs.old tallies.old) h → Run (M.Folding.leg machine.now) (M.Judging.means machine.now) (state roll.new legs.new tallies.new) (event (state roll.old legs.old tallies.old) (filing_of (piece strip.entry)) (heard (λ _. tallied (tally (piece strip.entry).text)) result) ∷ h) }
 {
     let mut open = feeding::begin(machine);
     feeding::feed(machine, &mut open, strip.text)?;
-    match roll.file(machine, legs, tallies, strip.slot as usize, open) {
-        Ok(_) => Ok(()),
-        Err(returned) => Err(returned.fault),
-    }
+    roll.file(machine, legs, tallies, strip.slot as usize, open)?;
+    Ok(())
 }
 
 // Files the strips in their order, a later one for a slot in place of an earlier one. The first
@@ -47,7 +45,7 @@ fn file_all<M: Judging>(
     tallies: &mut [Tally],
     mut strips: Strips,
 ) -> Result<(), Fault>
-    ensures filed { (p : Plain) → length p ≡ 128 → Stands (M.Folding.leg machine.now) (state roll.old legs.old tallies.old) p → Filed (M.Folding.leg machine.now) (filed p (left strips.entry)) result (state roll.new legs.new tallies.new) }
+    ensures ran { (h : List Event) → Run (M.Folding.leg machine.now) (M.Judging.means machine.now) (state roll.old legs.old tallies.old) h → Filings (M.Folding.leg machine.now) (M.Judging.means machine.now) (length legs.old) (length tallies.old) (left strips.entry) h result (state roll.new legs.new tallies.new) }
 {
     while let Some(strip) = strips.next() {
         file_one(roll, machine, legs, tallies, strip)?;
@@ -55,16 +53,16 @@ fn file_all<M: Judging>(
     Ok(())
 }
 
-// What the strips come to under a machine, with cells for 128 slots.
-pub(crate) fn report<M: Judging>(
+// What the strips come to under a machine, with cells for 128 slots: the first refusal ends it.
+// Its calls are a run, of which the law of rolls speaks.
+pub fn report<M: Judging>(
     machine: &M,
     legs: &mut [M::Leg],
     tallies: &mut [Tally],
     strips: Strips,
 ) -> Result<Report, Fault>
-    requires legs { length legs.old ≡ 256 }
-    requires tallies { length tallies.old ≡ 256 }
-    ensures reported { Reported (M.Judging.means machine.now) (filed opened (left strips.entry)) result }
+    ensures reported { Reported (M.Judging.means machine.now) (begun (length legs.old) (length tallies.old) (left strips.entry)) result }
+    ensures ran { Ran (M.Folding.leg machine.now) (M.Judging.means machine.now) (length legs.old) (length tallies.old) (left strips.entry) legs.new tallies.new result }
 {
     let mut roll = Roll::new::<M, M>();
     roll.open(machine, SLOTS, legs, tallies)?;

@@ -1,12 +1,13 @@
--- One turn of the fold over the slots, and that joining is associative on the legs of texts. Assumes nothing.
-use Rattle.std.proofs.Common.{◌≡◌, ℕ, ◌+◌, ◌<◌, List, [], ◌∷◌, ◌++◌, length, get_or, take, sym, refl, ap, ◌∙◌, append_assoc, append-nil, arith}
+-- One turn of the fold over legs, and of the one over the slots; and that joining is associative on the legs of texts. Assumes nothing.
+use Rattle.std.proofs.Common.{◌≡◌, ℕ, ◌+◌, ◌-◌, ◌<◌, List, [], ◌∷◌, ◌++◌, map, length, get_or, take, drop, sym, refl, ap, ◌∙◌, append_assoc, append-nil, arith}
+use lib.ListN.{length-map}
 use Rattle.std.proofs.ByRecursion.{All-take}
-use Rattle.std.proofs.lemmas.List.{get_or_read, take_more}
+use Rattle.std.proofs.lemmas.List.{get_or_read, get_or-map, take_more, drop_more}
 use Rattle.folding.specs.Cells.{under, cells}
-use Rattle.folding.specs.Keeping.{half}
-use Rattle.folding.specs.Legs.{Joins, Associative}
+use Rattle.folding.specs.Keeping.{half, Slotted}
+use Rattle.folding.specs.Legs.{Joins, Folds, Associative}
 use Rattle.folding.specs.Texts.{Bytes, AllBytes, together}
-use Rattle.folding.proofs.Entries.{length_cells, get_or_cells, half_cells}
+use Rattle.folding.proofs.Entries.{get_or_cells, half_cells}
 use Rattle.folding.proofs.Texts.{bytes_append, bytes_slot, bytes_together}
 use Rattle.folding.proofs.Trees.{tree, together_append}
 
@@ -16,23 +17,44 @@ associative leg u v w bu bv bw uv vw left right joins-uv joins-left joins-vw joi
     ∙ ap leg (append_assoc u v w)
     ∙ sym (joins-right u (v ++ w) bu (bytes_append v w bv bw) refl (joins-vw v w bv bw refl refl))
 
--- the leg that is read from slot s
-pub slot_leg : {L : Type 0} (leg : List ℕ → L) (all : List L) (slots : List (List ℕ)) (s : ℕ) (x : L) → all ≡ cells leg slots → s < length slots → x ≡ get_or all (half all + s) x → x ≡ leg (get_or slots s [])
-slot_leg leg all slots s x is lt read =
-    let long = ap length is ∙ length_cells leg slots in
-    let n : half all ≡ length slots = half_cells leg slots all is in
-    get_or_read all (half all + s) x (omega arith) read (leg [])
-    ∙ ap (λ l. get_or l (half all + s) (leg [])) is
-    ∙ get_or_cells leg slots (half all + s) (leg []) (omega arith)
-    ∙ ap (λ k. leg (under slots (k + s))) n
-    ∙ ap leg ((tree slots).slot s lt)
+together_more : (ts : List (List ℕ)) (i : ℕ) → i < length ts → together (take (i + 1) ts) ≡ together (take i ts) ++ get_or ts i []
+together_more ts i lt =
+    ap together (take_more ts i [] lt)
+    ∙ together_append (take i ts) (get_or ts i [] ∷ [])
+    ∙ ap (λ t. together (take i ts) ++ t) (append-nil (get_or ts i []))
 
-pub gather_more : {L : Type 0} (leg : List ℕ → L) (all : List L) (slots : List (List ℕ)) (s : ℕ) (so_far x r : L) → AllBytes slots → all ≡ cells leg slots → s < length slots → so_far ≡ leg (together (take s slots)) → x ≡ get_or all (half all + s) x → Joins leg so_far x r → r ≡ leg (together (take (s + 1) slots))
-gather_more leg all slots s so_far x r bytes is lt was read joins =
+pub bytes_upto : (ts : List (List ℕ)) (i : ℕ) → AllBytes ts → Bytes (together (take i ts))
+bytes_upto ts i bytes = bytes_together (take i ts) (All-take Bytes i ts bytes)
+
+-- one leg more is joined
+pub fold_more : {L : Type 0} (leg : List ℕ → L) (legs : List L) (w : List ℕ) (ts : List (List ℕ)) (i : ℕ) (so_far x r : L) → Bytes w → AllBytes ts → legs ≡ map leg ts → i < length legs → so_far ≡ leg (w ++ together (take i ts)) → x ≡ get_or legs i x → Joins leg so_far x r → r ≡ leg (w ++ together (take (i + 1) ts))
+fold_more leg legs w ts i so_far x r first bytes are lt was read joins =
+    let long = ap length are ∙ length-map ts leg in
+    let in' : i < length ts = omega arith in
+    let front : List ℕ = together (take i ts) in
+    joins (w ++ front) (get_or ts i []) (bytes_append w front first (bytes_upto ts i bytes)) (bytes_slot ts i bytes) was
+    (get_or_read legs i x lt read (leg []) ∙ ap (λ l. get_or l i (leg [])) are ∙ get_or-map leg ts i [] (leg []) in')
+    ∙ ap leg (append_assoc w front (get_or ts i []) ∙ ap (λ t. w ++ t) (sym (together_more ts i in')))
+
+-- the cells of texts are those of their slots too
+pub slotted : {L : Type 0} (leg : List ℕ → L) (all : List L) (slots : List (List ℕ)) → all ≡ cells leg slots → Slotted leg all slots
+slotted leg all slots is =
+    let n : half all ≡ length slots = half_cells leg slots all is in (
+      sym n,
+      λ s lt.
+          ap (λ l. get_or l (half all + s) (leg [])) is
+          ∙ get_or_cells leg slots (half all + s) (leg []) (omega arith)
+          ∙ ap (λ k. leg (under slots (k + s))) n
+          ∙ ap leg ((tree slots).slot s lt),
+    )
+
+-- the leg of one slot more is folded on, as a slice of one cell
+pub slot_more : {L : Type 0} (leg : List ℕ → L) (all : List L) (slots : List (List ℕ)) (s : ℕ) (so_far r : L) → AllBytes slots → Slotted leg all slots → s < length slots → so_far ≡ leg (together (take s slots)) → Folds leg so_far (take (half all + s + 1 - (half all + s)) (drop (half all + s) all)) r → r ≡ leg (together (take (s + 1) slots))
+slot_more leg all slots s so_far r bytes are lt was folds =
+    let at : ℕ = half all + s in
+    let same = are.0 in
+    let one : half all + s + 1 - at ≡ 1 = omega arith in
     let w : List ℕ = get_or slots s [] in
-    joins (together (take s slots)) w (bytes_together (take s slots) (All-take Bytes s slots bytes)) (bytes_slot slots s bytes) was (slot_leg leg all slots s x is lt read)
-    ∙ ap leg
-    (sym
-    (ap together (take_more slots s [] lt)
-    ∙ together_append (take s slots) (w ∷ [])
-    ∙ ap (λ t. together (take s slots) ++ t) (append-nil w)))
+    folds (together (take s slots)) (w ∷ []) (bytes_upto slots s bytes) (bytes_slot slots s bytes, tt) was
+    (ap (λ n. take n (drop at all)) one ∙ ap (take 1) (drop_more all at (leg []) (omega arith)) ∙ ap (λ x. x ∷ []) (are.1 s lt))
+    ∙ ap leg (ap (λ t. together (take s slots) ++ t) (append-nil w) ∙ sym (together_more slots s lt))

@@ -1,9 +1,9 @@
 -- The tally of two texts joined, from the tally of each. Assumes nothing.
-use Rattle.std.proofs.Common.{◌≡◌, ℕ, ◌+◌, min, cond, eqb, List, [], ◌∷◌, ◌++◌, ap, arith, length-append}
+use Rattle.std.proofs.Common.{◌≡◌, ℕ, ◌+◌, ◌-◌, ◌^◌, min, cond, eqb, List, [], ◌∷◌, ◌++◌, length, ap, arith, length-append}
 use Rattle.std.proofs.lemmas.List.{length_push}
 use Rattle.std.proofs.lemmas.List.Sums.{sum_by-append, sum_by_push}
 use Rattle.folding.specs.declared.tally.Tally.{Tally}
-use Rattle.folding.specs.Tallies.{most, tally}
+use Rattle.folding.specs.Tallies.{most, line_ends, tally}
 
 -- one line end, or none
 abbrev pub end_of : ℕ → ℕ

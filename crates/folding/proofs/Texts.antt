@@ -1,5 +1,5 @@
 -- What is a text: a slice of bytes, and what is made of texts. Assumes nothing.
-use Rattle.std.proofs.Common.{ℕ, zero, suc, ◌<◌, List, [], ◌∷◌, ◌++◌, get_or, take, w8, Fits}
+use Rattle.std.proofs.Common.{ℕ, zero, suc, ◌<◌, List, [], ◌∷◌, ◌++◌, get_or, take, arith, w8, Fits}
 use Rattle.std.proofs.ByRecursion.{All-append, All-take, All-from_get_or}
 use Rattle.folding.specs.Texts.{Bytes, AllBytes, together}
 

@@ -1,5 +1,5 @@
 -- The laws of the tree of cells: what stands under a cell, and which cells stand above one. Assumes nothing.
-use Rattle.std.proofs.Common.{◌≡◌, ℕ, zero, suc, ◌+◌, ◌-◌, ◌*◌, ◌/◌, ◌^◌, ◌<◌, ◌≤◌, ltb, List, [], ◌∷◌, ◌++◌, length, get_or, take, drop, set, replicate, sym, refl, ap, ◌∙◌, subst, ⊎_elim, append_assoc, append-nil, mul-le-mul_right, mul_assoc, mul_comm, add-mul, mul-le-mul_left, one-mul, zero-mul, mul-one, div-le_self, div-one, mul_left_comm, one-add, arith, length-set, get_or-set_other, take-add, pow_pos, shr-shr}
+use Rattle.std.proofs.Common.{◌≡◌, ℕ, zero, suc, ◌+◌, ◌-◌, ◌*◌, ◌/◌, ◌^◌, ◌<◌, ◌≤◌, Bool, true, false, cond, ltb, ◌⊎◌, List, [], ◌∷◌, ◌++◌, length, get_or, take, drop, set, replicate, sym, refl, ap, ◌∙◌, subst, inl, inr, ⊎_elim, append_assoc, append-nil, mul-le-mul_right, mul_assoc, mul_comm, add-mul, mul-le-mul_left, one-mul, zero-mul, mul-one, div-le_self, div-one, mul_left_comm, one-add, arith, length-set, get_or-set_other, take-add, pow_pos, shr-shr}
 use native.Mathlib.Nat.{pow-succ'}
 use Rattle.std.proofs.lemmas.Bool.{cond-true, cond-false, cond_both, lt-ltb, le-ltb, cases_lt}
 use Rattle.std.proofs.lemmas.List.{drop-drop, drop_more, take_all}

@@ -6,6 +6,7 @@
 --   Spares was s is        whatever the values, no cell but slot s and those above it has changed
 --   Ready leg slots i all  the cells are those of the texts, save perhaps cell i and those above it
 --   Gathers leg all r      r is the leg of the texts joined in slot order
+--   Slotted leg all slots  the cells of the slots are the legs of the texts, whatever the other cells are
 use Rattle.std.specs.Prelude.{◌≡◌, ℕ, ◌+◌, ◌*◌, ◌/◌, ◌<◌, List, [], length, replicate, slice_index_or, slice_set}
 use Rattle.folding.specs.Cells.{under, cells, Above}
 use Rattle.folding.specs.Texts.{Bytes, AllBytes, together}
@@ -31,3 +32,8 @@ Ready leg slots i all = (k : ℕ) → k < 2 * length slots → (Above k i → �
 
 abbrev pub Gathers : {L : Type 0} → (List ℕ → L) → List L → L → Type 0
 Gathers leg all r = (slots : List (List ℕ)) → AllBytes slots → all ≡ cells leg slots → r ≡ leg (together slots)
+
+abbrev pub Slotted : {L : Type 0} → (List ℕ → L) → List L → List (List ℕ) → Type 0
+Slotted leg all slots =
+    (length slots ≡ half all)
+    × ((s : ℕ) → s < length slots → slice_index_or all (half all + s) (leg []) ≡ leg (slice_index_or slots s []))

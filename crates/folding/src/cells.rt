@@ -4,8 +4,8 @@ ghost use Rattle.std.specs.Prelude.{◌≡◌, ℕ, ◌+◌, ◌*◌, ◌/◌, �
 ghost use Rattle.fault.specs.declared.Layer.TheVariants.{Roll};
 ghost use Rattle.fault.specs.declared.Refusal.TheVariants.{NoSuchSlot};
 ghost use Rattle.folding.specs.Cells.{under, Tree, cells as cells_of, Above};
-ghost use Rattle.folding.specs.Keeping.{half, Clears, Puts, Spares, Gathers, Ready};
-ghost use Rattle.folding.specs.Legs.{Associative};
+ghost use Rattle.folding.specs.Keeping.{half, Clears, Puts, Spares, Gathers, Ready, Slotted};
+ghost use Rattle.folding.specs.Legs.{Associative, Folds};
 ghost use Rattle.folding.specs.Losing.{FirstLost};
 ghost use Rattle.folding.specs.Texts.{AllBytes};
 
@@ -64,22 +64,23 @@ fn climb<F: Folding>(folding: &F, cells: &mut [F::Leg], from: usize)
     }
 }
 
-// The leg of the texts joined in slot order, by a fold from the left over the slots. The tree
-// groups the same joins otherwise: that both come to one leg is what `associative` says.
-pub fn fold<F: Folding>(folding: &F, cells: &[F::Leg]) -> F::Leg
-    ensures value { Gathers (F.Folding.leg folding.now) cells.now result }
+// From the leg of a text and the legs of the texts that follow it, the leg of all of them joined, by
+// a fold from the left. A tree groups the same joins otherwise: that both come to one leg is what
+// `associative` says.
+pub fn fold<F: Folding>(folding: &F, from: &F::Leg, legs: &[F::Leg]) -> F::Leg
+    ensures folds { Folds (F.Folding.leg folding.now) from.now legs.now result }
     ensures associative { Associative (F.Folding.leg folding.now) }
 {
-    let n = cells.len() / 2;
-    let mut all = folding.empty();
-    for slot in 0..n {
-        all = folding.join(&all, &cells[n + slot]);
+    let mut all = *from;
+    for leg in legs {
+        all = folding.join(&all, leg);
     }
     all
 }
 
-// The same leg by one look, at the cell that stands above all others.
+// The leg of the texts joined in slot order, by one look at the cell that stands above all others.
 pub fn whole<F: Folding>(folding: &F, cells: &[F::Leg]) -> F::Leg
+    ensures cell { result ≡ slice_index_or cells.now 1 (F.Folding.leg folding.now []) }
     ensures value { (k : ℕ) → half cells.now ≡ 2 ^ k → Gathers (F.Folding.leg folding.now) cells.now result }
     ensures none { length cells.now ≤ 1 → result ≡ F.Folding.leg folding.now [] }
 {
@@ -89,14 +90,15 @@ pub fn whole<F: Folding>(folding: &F, cells: &[F::Leg]) -> F::Leg
     }
 }
 
-// The first slot at whose end the text so far is lost: the same fold, up to there.
+// The slot that loses the text: after it, and after no slot before it, the text is lost.
 pub fn first_lost<M: Judging>(machine: &M, cells: &[M::Leg]) -> Option<usize>
     ensures value { (slots : List (List ℕ)) → AllBytes slots → cells.now ≡ cells_of (M.Folding.leg machine.now) slots → FirstLost (M.Judging.means machine.now) slots result }
+    ensures slots { (slots : List (List ℕ)) → AllBytes slots → Slotted (M.Folding.leg machine.now) cells.now slots → FirstLost (M.Judging.means machine.now) slots result }
 {
     let n = cells.len() / 2;
     let mut so_far = machine.empty();
     for s in 0..n {
-        so_far = machine.join(&so_far, &cells[n + s]);
+        so_far = fold(machine, &so_far, &cells[n + s..n + s + 1]);
         if machine.lost(&so_far) {
             return Some(s);
         }

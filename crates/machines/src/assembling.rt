@@ -1,6 +1,6 @@
 // A pattern put together as a part of a machine, and the machine of the whole pattern.
-ghost use Rattle.std.specs.Prelude.{take};
 ghost use Rattle.pattern.specs.Expressions.{Regex};
+ghost use Rattle.pattern.specs.Records.{pattern_text};
 ghost use Rattle.pattern.specs.Grammar.{Written, deepest};
 ghost use Rattle.machines.specs.Fragments.{Represents};
 ghost use Rattle.machines.specs.Laws.{SpelledExactly, EachPlaceLives, MeansExactly, ReachesExactly, JoinsExactly, Neutral};
@@ -66,7 +66,7 @@ impl Assembly for Fragment {
 
 // The machine of the pattern that was read.
 pub fn build(pattern: &Pattern) -> PlaceMachine
-    ensures tables { (e : Regex) → Written deepest (take pattern.now.len pattern.now.bytes) e → Sane e × TablesOf e result.tables }
+    ensures tables { (e : Regex) → Written deepest (pattern_text pattern.now) e → Sane e × TablesOf e result.tables }
     ensures means { MeansExactly result.tables }
     ensures reaches { ReachesExactly result.tables }
     ensures joins { JoinsExactly result.tables }

@@ -1,6 +1,6 @@
 -- What the tests on a byte tell of it. Assumes nothing.
-use Rattle.std.proofs.Common.{◌≡◌, ℕ, ◌+◌, ◌-◌, ◌<◌, ◌≤◌, true, cond, ◌&&◌, eqb, leb, sym, ap, ◌∙◌, ⊎_elim, arith}
-use Rattle.std.proofs.lemmas.Bool.{true≢false, eqb-true, le-leb, leb-true, cond_both, cond-true, or_cases, and_parts, and_from}
+use Rattle.std.proofs.Common.{◌≡◌, ℕ, ◌+◌, ◌-◌, ◌<◌, ◌≤◌, Bool, true, false, cond, ◌&&◌, ◌||◌, eqb, leb, sym, refl, ap, ◌∙◌, ⊎_elim, arith}
+use Rattle.std.proofs.lemmas.Bool.{true≢false, eqb-true, ne_eqb, le-leb, lt-leb, leb-true, leb-false, cond_both, cond-true, cond-false, or_cases, and_parts, and_from, and_left, cases_Bool}
 use Rattle.pattern.specs.Characters.{Kind, bar, times, add, query, open', close', square, unsquare, brace, unbrace, dot, backslash, plain, kind, has_office, escapable, ClassKind, ends, slash, hyphen, barred, itself, class_kind}
 use Rattle.pattern.specs.Automaton.{CountKind, digit, comma, ended, other, count_kind}
 

@@ -1,11 +1,11 @@
 -- The members of a class that each byte finishes. Assumes nothing.
-use Rattle.std.proofs.Common.{◌≡◌, ℕ, false, cond, ◌&&◌, eqb, leb, List, [], ◌∷◌, ◌++◌, sym, refl, ap, ◌∙◌, append-nil}
+use Rattle.std.proofs.Common.{◌≡◌, ℕ, Bool, true, false, cond, ◌&&◌, eqb, leb, List, [], ◌∷◌, ◌++◌, sym, refl, ap, ◌∙◌, subst, append-nil}
 use Rattle.std.proofs.lemmas.Bool.{cond_both, true≢false, eqb-true}
 use Rattle.pattern.specs.declared.class.Progress.{Progress}
 use Rattle.pattern.specs.declared.class.Progress.TheVariants.{Empty, Between, Member, Dash, Escape, DashEscape}
 use Rattle.pattern.specs.Characters.{ClassKind, ends, slash, hyphen, barred, itself, kind_is_itself, class_kind, escapable}
 use Rattle.pattern.specs.Expressions.{Range}
-use Rattle.pattern.specs.Automaton.{fresh, in_escape, member, dashed, dashed_escape, ClassNext, no_class, inside, finished, class_next}
+use Rattle.pattern.specs.Automaton.{ClassState, fresh, in_escape, member, dashed, dashed_escape, ClassNext, no_class, inside, finished, class_next}
 use Rattle.pattern.specs.Classes.{state_of, done_by}
 use Rattle.pattern.proofs.Chars.{InClass, in_class_lem}
 

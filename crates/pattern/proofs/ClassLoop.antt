@@ -10,8 +10,8 @@ use Rattle.pattern.specs.declared.class.Taken.TheVariants.{Inside, Ended, Refuse
 use Rattle.pattern.specs.Expressions.{Range, one}
 use Rattle.pattern.specs.Grammar.{Members, none}
 use Rattle.pattern.specs.Characters.{class_kind}
-use Rattle.pattern.specs.Automaton.{Frame, state, opened, after, bad, in_class, fresh, class_next, of_class, inside, verdict}
-use Rattle.pattern.specs.Classes.{state_of, Suits, Follows, done_by, ClassHeard, ClassStops, ClassRefused}
+use Rattle.pattern.specs.Automaton.{Frame, State, state, opened, after, bad, good, in_class, fresh, class_next, of_class, inside, finished, no_class, verdict}
+use Rattle.pattern.specs.Classes.{state_of, Suits, Follows, done_by, ClassRead, ClassHeard, ClassStops, ClassRefused}
 use Rattle.pattern.specs.Refusals.{refused}
 use Rattle.pattern.proofs.Seen.{Class}
 use Rattle.pattern.proofs.ClassSeen.{class_goes, Goes}

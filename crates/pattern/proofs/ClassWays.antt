@@ -1,11 +1,11 @@
 -- How the class reader's state follows the automaton's, way by way. Assumes nothing.
-use Rattle.std.proofs.Common.{◌≡◌, ℕ, ◌<◌, ◌≤◌, true, ◌&&◌, leb, List, [], ◌∷◌, ◌++◌, length, sym, refl, ap, ◌∙◌, subst, arith}
+use Rattle.std.proofs.Common.{◌≡◌, ℕ, ◌<◌, ◌≤◌, Bool, true, false, cond, ◌&&◌, eqb, leb, List, [], ◌∷◌, ◌++◌, length, sym, refl, ap, ◌∙◌, subst, arith}
 use Rattle.std.proofs.lemmas.List.{length-append}
-use Rattle.std.proofs.lemmas.Bool.{cond-true, le-leb, and_from, true≢false}
+use Rattle.std.proofs.lemmas.Bool.{cond-true, cond-false, le-leb, and_from, true≢false}
 use Rattle.pattern.specs.declared.class.Progress.{Progress}
 use Rattle.pattern.specs.declared.class.Progress.TheVariants.{Empty, Between, Member, Dash, Escape, DashEscape}
 use Rattle.pattern.specs.declared.class.Taken.{Taken}
-use Rattle.pattern.specs.declared.class.Taken.TheVariants.{Inside, Ended}
+use Rattle.pattern.specs.declared.class.Taken.TheVariants.{Inside, Ended, Refused}
 use Rattle.pattern.specs.Characters.{ClassKind, ends, slash, hyphen, barred, itself, kind_is_itself, class_kind, escapable}
 use Rattle.pattern.specs.Expressions.{Range}
 use Rattle.pattern.specs.Automaton.{class_next, fresh, member, dashed}

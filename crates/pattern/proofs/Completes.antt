@@ -1,10 +1,10 @@
 -- The automaton reads each well-written pattern as its expression, so a pattern has one reading. Assumes nothing.
-use Rattle.std.proofs.Common.{◌≡◌, ℕ, zero, suc, true, List, [], ◌∷◌, ◌++◌, sym, refl, ap, ◌∙◌, append_assoc, append-nil}
+use Rattle.std.proofs.Common.{◌≡◌, ℕ, zero, suc, Bool, true, false, cond, List, [], ◌∷◌, ◌++◌, sym, refl, ap, ◌∙◌, append_assoc, append-nil}
 use Rattle.std.proofs.lemmas.Bool.{cond-true}
-use Rattle.pattern.specs.Characters.{escapable}
-use Rattle.pattern.specs.Expressions.{Regex, one, byte, empty, alt}
+use Rattle.pattern.specs.Characters.{kind, escapable}
+use Rattle.pattern.specs.Expressions.{Regex, one, byte, empty, seq, alt}
 use Rattle.pattern.specs.Grammar.{Repeated, by_star, by_plus, by_opt, by_count, Atom, a_plain, an_escape, a_dot, a_class, a_group, Piece, once, repeated, Branch, nothing, followed, Alternatives, lone, also, Written, OneReading}
-use Rattle.pattern.specs.Automaton.{Frame, frame, Sofar, first, later, state, ready, after, escape, opened, push, closed, begin, good, verdict, start}
+use Rattle.pattern.specs.Automaton.{Frame, frame, Sofar, first, later, State, state, ready, after, escape, opened, push, closed, begin, alive, dead, good, verdict, start}
 use Rattle.pattern.proofs.Runs.{NoRepeat, is_repeat, settles, verdict_alive, verdict_end}
 use Rattle.pattern.proofs.ClassRuns.{class_runs}
 use Rattle.pattern.proofs.CountRuns.{counts_run}

@@ -1,10 +1,10 @@
 -- The automaton reads each well-written counted repeat. Assumes nothing.
-use Rattle.std.proofs.Common.{◌≡◌, ℕ, ◌+◌, ◌*◌, ◌/◌, ◌%◌, ◌<◌, ◌≤◌, true, List, [], ◌∷◌, ◌++◌, decimal, refl, ap, ◌∙◌, ⊎_elim, append_assoc, arith}
+use Rattle.std.proofs.Common.{◌≡◌, ℕ, suc, ◌+◌, ◌*◌, ◌/◌, ◌%◌, ◌^◌, ◌<◌, ◌≤◌, Bool, true, false, cond, ◌&&◌, ◌||◌, leb, List, [], ◌∷◌, ◌++◌, decimal, sym, refl, ap, ◌∙◌, ⊎_elim, append_assoc, arith, lit<}
 use Rattle.std.proofs.lemmas.Fmt.{decimal_digit, decimal_step}
 use Rattle.std.proofs.lemmas.Bool.{le-leb, cond-true, and_from, or_left, or_right, cases_lt}
 use Rattle.pattern.specs.Expressions.{Regex, counted}
 use Rattle.pattern.specs.Grammar.{Counts, exactly, between}
-use Rattle.pattern.specs.Automaton.{Frame, State, state, ready, in_count, CountState, awaiting, digits, Stage, least, most, bound, count_can_begin, count_can_go_on, count_next, of_count, push, verdict}
+use Rattle.pattern.specs.Automaton.{Frame, State, state, ready, in_count, CountState, CountKind, awaiting, digits, digit, Stage, least, most, bound, count_can_begin, count_can_go_on, count_kind, count_next, of_count, counting, counts, push, verdict}
 use Rattle.pattern.proofs.Chars.{digit_kind}
 use Rattle.pattern.proofs.Runs.{verdict_alive}
 

@@ -1,5 +1,5 @@
 -- The ways in which a counted repeat is read or refused, after its first count and after its second. Assumes nothing.
-use Rattle.std.proofs.Common.{◌≡◌, ℕ, ◌+◌, ◌-◌, ◌<◌, ◌≤◌, false, leb, List, [], ◌∷◌, ◌++◌, length, get_or, take, drop, decimal, sym, refl, ap, ◌∙◌, subst, ⊎_elim, append_assoc, arith, length-append, length-drop, take-append-drop}
+use Rattle.std.proofs.Common.{◌≡◌, ℕ, ◌+◌, ◌-◌, ◌<◌, ◌≤◌, Bool, true, false, cond, leb, List, [], ◌∷◌, ◌++◌, length, get_or, take, drop, decimal, sym, refl, ap, ◌∙◌, subst, ⊎_elim, append_assoc, arith, length-append, length-drop, take-append-drop}
 use Rattle.std.specs.List.{AllByRecursion}
 use Rattle.std.proofs.lemmas.Fmt.{decimal_digit}
 use Rattle.std.proofs.ByRecursion.{All-append, All-get_or}
@@ -9,7 +9,7 @@ use Rattle.fault.specs.declared.Fault.{Fault}
 use Rattle.fault.specs.declared.Refusal.TheVariants.{BadlyWritten}
 use Rattle.pattern.specs.Expressions.{empty}
 use Rattle.pattern.specs.Grammar.{Counts, exactly, between}
-use Rattle.pattern.specs.Automaton.{state, in_count, awaiting, digits, CountKind, digit, comma, ended, other, no_count, least, most, count_can_go_on, count_next, of_count, opened, bad, verdict}
+use Rattle.pattern.specs.Automaton.{Frame, State, state, in_count, awaiting, digits, CountKind, digit, comma, ended, other, no_count, Stage, least, most, bound, count_can_go_on, count_kind, count_next, of_count, opened, bad, verdict}
 use Rattle.pattern.specs.Refusals.{Stops, refused}
 use Rattle.pattern.specs.Repeats.{NumberRead, NumberRefused, CountsRead, CountsStop, CountsRefused}
 use Rattle.pattern.proofs.Chars.{InCount, in_count_lem}

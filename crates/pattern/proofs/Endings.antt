@@ -1,16 +1,18 @@
 -- From each state that some text leads to, bytes can follow that end a well-written pattern. Assumes nothing.
-use Rattle.std.proofs.Common.{◌≡◌, ℕ, suc, ◌+◌, ◌-◌, ◌*◌, ◌<◌, ◌≤◌, leb, List, [], ◌∷◌, ◌++◌, length, decimal, sym, refl, ap, ◌∙◌, subst, ⊎_elim, arith}
+use Rattle.std.proofs.Common.{◌≡◌, ℕ, suc, ◌+◌, ◌-◌, ◌*◌, ◌<◌, ◌≤◌, Bool, true, false, cond, ◌&&◌, leb, List, [], ◌∷◌, ◌++◌, length, decimal, sym, refl, ap, ◌∙◌, subst, ⊎_elim, append_assoc, append-nil, arith}
+use Rattle.std.specs.List.{AllByRecursion}
 use Rattle.std.proofs.lemmas.List.{length-append}
 use Rattle.std.proofs.lemmas.Fmt.{decimal_digit}
 use Rattle.std.proofs.lemmas.Bool.{cond-true, le-leb, and_from, cases_lt}
+use Rattle.pattern.specs.Characters.{escapable}
 use Rattle.pattern.specs.Expressions.{Range, Regex, one, byte, counted}
 use Rattle.pattern.specs.Grammar.{ClassByte, bare, escaped}
-use Rattle.pattern.specs.Automaton.{Frame, State, state, ready, after, escape, in_class, in_count, ClassState, fresh, in_escape, member, dashed, dashed_escape, CountState, awaiting, digits, Stage, least, most, bound, of_class, of_count, good, closed, push, verdict}
+use Rattle.pattern.specs.Automaton.{Frame, State, state, ready, after, escape, in_class, in_count, ClassState, fresh, in_escape, member, dashed, dashed_escape, CountState, awaiting, digits, Stage, least, most, bound, of_class, of_count, Outcome, good, closed, push, verdict}
 use Rattle.pattern.proofs.Chars.{escapable_low}
 use Rattle.pattern.proofs.Runs.{NoRepeat, settles, verdict_alive, verdict_end}
 use Rattle.pattern.proofs.ClassRuns.{ends_class}
 use Rattle.pattern.proofs.CountRuns.{number_runs, goes_on, decimal_two}
-use Rattle.pattern.proofs.Seen.{Class, Before, Count, Seen}
+use Rattle.pattern.proofs.Seen.{InClass, Class, Before, Hopeful, Count, Sign, Seen}
 use Rattle.pattern.proofs.Sounds.{Bytes}
 
 -- some bytes end what s has begun

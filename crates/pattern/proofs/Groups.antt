@@ -1,12 +1,12 @@
 -- The ways in which a group is read or refused. Assumes nothing.
-use Rattle.std.proofs.Common.{◌≡◌, ℕ, suc, ◌+◌, ◌<◌, ◌≤◌, List, ◌∷◌, length, get_or, drop, sym, refl, ◌∙◌, subst, arith}
+use Rattle.std.proofs.Common.{◌≡◌, ℕ, zero, suc, ◌+◌, ◌<◌, ◌≤◌, List, [], ◌∷◌, ◌++◌, length, get_or, drop, sym, refl, ap, ◌∙◌, subst, arith}
 use Rattle.fault.specs.declared.Fault.{Fault}
 use Rattle.fault.specs.declared.Refusal.TheVariants.{BadlyWritten}
 use Rattle.pattern.specs.Characters.{kind}
 use Rattle.pattern.specs.Expressions.{Regex}
 use Rattle.pattern.specs.Automaton.{Frame, ready, after, state, opened, closed, begin, verdict}
 use Rattle.pattern.specs.Refusals.{Stops, refused}
-use Rattle.pattern.specs.Walks.{GroupRead, GroupStops, AlternativesRead, AlternativesStop}
+use Rattle.pattern.specs.Walks.{Halts, GroupRead, GroupStops, AlternativesRead, AlternativesStop}
 use Rattle.pattern.proofs.Slices.{moves, stops_inside, stops_at, stopped}
 
 module _ (p : List ℕ) (at : ℕ) (lt : at < length p) (paren : get_or p at 0 ≡ 40) where

@@ -1,11 +1,12 @@
 -- The ways in which a count is read or refused. Assumes nothing.
-use Rattle.std.proofs.Common.{◌≡◌, ℕ, ◌+◌, ◌*◌, ◌/◌, ◌%◌, ◌<◌, ◌≤◌, Bool, true, false, cond, leb, List, [], ◌∷◌, ◌++◌, length, get_or, drop, decimal, sym, refl, ap, ◌∙◌, arith}
+use Rattle.std.proofs.Common.{◌≡◌, ℕ, ◌+◌, ◌-◌, ◌*◌, ◌/◌, ◌%◌, ◌<◌, ◌≤◌, Bool, true, false, cond, leb, List, [], ◌∷◌, ◌++◌, length, get_or, drop, decimal, sym, refl, ap, ◌∙◌, subst, arith}
 use Rattle.std.proofs.lemmas.Fmt.{decimal_digit}
-use Rattle.std.proofs.lemmas.Bool.{and_parts, leb-true, lt-leb, and_right}
+use Rattle.std.proofs.lemmas.Bool.{cond-true, cond-false, and_parts, leb-true, lt-leb, and_right}
 use Rattle.fault.specs.declared.Fault.{Fault}
 use Rattle.fault.specs.declared.Refusal.TheVariants.{BadlyWritten}
-use Rattle.pattern.specs.Automaton.{state, in_count, awaiting, digits, CountKind, digit, comma, ended, other, no_count, counting, Stage, bound, count_can_begin, count_can_go_on, count_kind, count_next, of_count, verdict}
-use Rattle.pattern.specs.Refusals.{refused}
+use Rattle.pattern.specs.Expressions.{Regex}
+use Rattle.pattern.specs.Automaton.{Frame, State, state, in_count, awaiting, digits, CountState, CountKind, digit, comma, ended, other, CountNext, no_count, counting, Stage, bound, count_can_begin, count_can_go_on, count_kind, count_next, of_count, alive, dead, step_of, verdict}
+use Rattle.pattern.specs.Refusals.{Stops, refused}
 use Rattle.pattern.specs.Repeats.{NumberRead, NumberRefused}
 use Rattle.pattern.proofs.Chars.{digit_kind}
 use Rattle.pattern.proofs.CountRuns.{decimal_two}

@@ -1,18 +1,18 @@
 -- What the reader's answer at the outermost level says of the whole pattern. Assumes nothing.
-use Rattle.std.proofs.Common.{◌≡◌, ℕ, ◌-◌, ◌<◌, ◌≤◌, min, List, [], length, get_or, refl, ap, ◌∙◌, subst, inl, inr, arith, w8, Fits}
+use Rattle.std.proofs.Common.{◌≡◌, ℕ, ◌+◌, ◌-◌, ◌<◌, ◌≤◌, min, List, [], ◌∷◌, ◌++◌, length, get_or, drop, sym, refl, ap, ◌∙◌, subst, inl, inr, arith, w8, Fits}
 use mathlib.Core.Logic.{∥∥₁_elim}
 use Rattle.std.proofs.ByRecursion.{All-from_get_or}
 use Rattle.std.proofs.lemmas.List.{drop_all}
 use Rattle.fault.specs.declared.Fault.{Fault}
-use Rattle.fault.specs.declared.Refusal.TheVariants.{BadlyWritten, TooManyPlaces}
+use Rattle.fault.specs.declared.Refusal.TheVariants.{PatternTooLong, BadlyWritten, TooManyPlaces}
 use Rattle.pattern.specs.Characters.{kind}
 use Rattle.pattern.specs.Places.{places}
 use Rattle.pattern.specs.Expressions.{Regex, empty}
-use Rattle.pattern.specs.Grammar.{Written, lone, nothing}
+use Rattle.pattern.specs.Grammar.{Written, WellWritten, lone, nothing}
 use Rattle.pattern.specs.Beginnings.{LongestBeginning}
-use Rattle.pattern.specs.Automaton.{closed, begin, verdict, start}
+use Rattle.pattern.specs.Automaton.{Frame, ready, state, closed, good, bad, begin, verdict, start}
 use Rattle.pattern.specs.Refusals.{Stops, refused}
-use Rattle.pattern.specs.Reading.{Granted, Readable, Holds, Bad, Unwritten, Refused, Assembled}
+use Rattle.pattern.specs.Reading.{Granted, Readable, Holds, Bad, Crowded, Unwritten, Refused, Assembled}
 use Rattle.pattern.specs.Walks.{AlternativesRead, AlternativesStop}
 use Rattle.pattern.proofs.Runs.{verdict_end}
 use Rattle.pattern.proofs.Slices.{stops_inside, stopped}

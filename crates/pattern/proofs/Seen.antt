@@ -3,10 +3,10 @@
 --   Sign d m t      t is what has been read of the sign or atom that the mode m is in
 --   Open d fr u     u is an open pattern, up to the end of a piece
 --   Around d ctx o  o is what stands before the innermost open pattern
-use Rattle.std.proofs.Common.{◌≡◌, ℕ, zero, suc, ◌+◌, ◌*◌, ◌<◌, ◌≤◌, ◌⊎◌, List, [], ◌∷◌, ◌++◌, decimal}
+use Rattle.std.proofs.Common.{◌≡◌, ℕ, zero, suc, ◌+◌, ◌*◌, ◌<◌, ◌≤◌, ◌⊎◌, List, [], ◌∷◌, ◌++◌, length, decimal}
 use Rattle.pattern.specs.Expressions.{Range, Regex}
 use Rattle.pattern.specs.Grammar.{ClassByte, Members, Atom, Branch, Alternatives, Written}
-use Rattle.pattern.specs.Automaton.{Frame, frame, first, later, Mode, ready, after, escape, in_class, in_count, ClassState, fresh, in_escape, member, dashed, dashed_escape, CountState, awaiting, digits, Stage, least, most, bound, State, state}
+use Rattle.pattern.specs.Automaton.{Frame, frame, Sofar, first, later, Mode, ready, after, escape, in_class, in_count, ClassState, fresh, in_escape, member, dashed, dashed_escape, CountState, awaiting, digits, Stage, least, most, bound, State, state}
 
 -- what stands between parentheses at depth d
 abbrev pub Group : ℕ → List ℕ → Regex → Type 0

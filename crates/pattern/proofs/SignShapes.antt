@@ -1,7 +1,7 @@
 -- What the first byte of a sign says of its rest, and so where no sign stands. Assumes nothing.
-use Rattle.std.proofs.Common.{◌≡◌, ℕ, zero, suc, ◌+◌, ◌-◌, ◌<◌, Bool, true, false, List, [], ◌∷◌, ◌++◌, length, get_or, take, drop, sym, refl, ap, ◌∙◌, subst, append_assoc, arith, length-append, length-drop, take-append-drop}
-use Rattle.std.proofs.lemmas.List.{take_at, get_or_at, get_or-drop}
-use Rattle.std.proofs.lemmas.Bool.{true≢false}
+use Rattle.std.proofs.Common.{◌≡◌, ℕ, zero, suc, ◌+◌, ◌-◌, ◌<◌, ◌≤◌, Bool, true, false, List, [], ◌∷◌, ◌++◌, length, get_or, take, drop, sym, refl, ap, ◌∙◌, subst, ⊎_elim, append_assoc, arith, length-append, length-drop, take-append-drop}
+use Rattle.std.proofs.lemmas.List.{drop_all, take_at, get_or_at, get_or-drop}
+use Rattle.std.proofs.lemmas.Bool.{true≢false, cases_lt}
 use Rattle.fault.specs.declared.Fault.{Fault}
 use Rattle.pattern.specs.Characters.{Kind, bar, times, add, query, open', close', square, unsquare, brace, unbrace, dot, backslash, plain, kind, escapable}
 use Rattle.pattern.specs.Expressions.{Range, Regex}

@@ -1,10 +1,11 @@
 -- The ways in which a sign is handed out or refused. Assumes nothing.
-use Rattle.std.proofs.Common.{◌≡◌, ℕ, ◌+◌, ◌-◌, ◌<◌, Bool, true, false, eqb, List, [], ◌∷◌, ◌++◌, length, get_or, take, drop, sym, refl, ap, ◌∙◌, subst, append_assoc, arith, length-append}
+use Rattle.std.proofs.Common.{◌≡◌, ℕ, ◌+◌, ◌-◌, ◌<◌, ◌≤◌, Bool, true, false, cond, eqb, leb, List, [], ◌∷◌, ◌++◌, length, get_or, take, drop, sym, refl, ap, ◌∙◌, subst, append_assoc, add-zero, arith, length-append}
 use Rattle.std.proofs.lemmas.Bool.{cond-false, ne_eqb}
 use Rattle.fault.specs.declared.Fault.{Fault}
 use Rattle.fault.specs.declared.Refusal.TheVariants.{BadlyWritten}
-use Rattle.pattern.specs.Characters.{kind, plain, escapable}
-use Rattle.pattern.specs.Automaton.{Frame, Mode, ready, after, escape, in_class, in_count, fresh, awaiting, least, state, dead, alive, push, begin, repeat_or, step, verdict}
+use Rattle.pattern.specs.Characters.{Kind, kind, plain, escapable}
+use Rattle.pattern.specs.Expressions.{Regex}
+use Rattle.pattern.specs.Automaton.{Frame, Mode, ready, after, escape, in_class, in_count, fresh, awaiting, least, State, state, dead, alive, push, begin, repeat_or, step, step_of, verdict}
 use Rattle.pattern.specs.Refusals.{Stops, refused}
 use Rattle.pattern.specs.Signs.{Waits, SignStops}
 use Rattle.pattern.specs.Classes.{ClassRead, ClassStops}

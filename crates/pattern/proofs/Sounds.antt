@@ -1,10 +1,10 @@
 -- What the automaton reads as an expression is written so. Assumes nothing.
-use Rattle.std.proofs.Common.{◌≡◌, ℕ, ◌<◌, List, [], ◌∷◌, ◌++◌, sym, refl, ap, ◌∙◌, subst, append_assoc, append-nil, arith}
+use Rattle.std.proofs.Common.{◌≡◌, ℕ, suc, ◌<◌, List, [], ◌∷◌, ◌++◌, sym, refl, ap, ◌∙◌, subst, append_assoc, append-nil, arith}
 use Rattle.std.specs.List.{AllByRecursion}
 use Rattle.pattern.specs.Expressions.{Regex}
-use Rattle.pattern.specs.Grammar.{Written, once, nothing}
-use Rattle.pattern.specs.Automaton.{Frame, State, state, ready, after, escape, in_class, in_count, Next, dead, alive, good, bad, closed, push, step_of, finish, verdict, start}
-use Rattle.pattern.proofs.Seen.{Open, Seen}
+use Rattle.pattern.specs.Grammar.{Alternatives, Written, once, nothing}
+use Rattle.pattern.specs.Automaton.{Frame, frame, State, state, ready, after, escape, in_class, in_count, Next, dead, alive, Outcome, good, bad, closed, push, step_of, finish, verdict, start}
+use Rattle.pattern.proofs.Seen.{Group, Open, Around, Seen}
 use Rattle.pattern.proofs.Steps.{Goes, shut, grow, written_is, step_goes}
 use Rattle.pattern.proofs.Runs.{onward, verdict_is, verdict_end}
 

@@ -1,15 +1,16 @@
 -- One step of the recursive reader, sign by sign, and what its loop keeps. Assumes nothing.
-use Rattle.std.proofs.Common.{◌≡◌, ℕ, ◌+◌, ◌-◌, ◌<◌, ◌≤◌, Bool, true, false, leb, List, ◌∷◌, ◌++◌, length, drop, sym, refl, ap, ◌∙◌, subst, ⊎_elim, arith, length-append, length-drop}
-use Rattle.std.proofs.lemmas.List.{drop_all, drop_more}
-use Rattle.std.proofs.lemmas.Bool.{cases_lt, leb-true, leb-false}
+use Rattle.std.proofs.Common.{◌≡◌, ℕ, zero, suc, ◌+◌, ◌-◌, ◌*◌, ◌<◌, ◌≤◌, Bool, true, false, leb, List, [], ◌∷◌, ◌++◌, length, get_or, drop, sym, refl, ap, ◌∙◌, subst, ⊎_elim, add-zero, arith, length-append, length-drop}
+use Rattle.std.proofs.lemmas.List.{drop_all, drop_more, get_or-drop}
+use Rattle.std.proofs.lemmas.Bool.{cases_lt, true≢false, leb-true, leb-false}
 use Rattle.fault.specs.declared.Fault.{Fault}
+use Rattle.fault.specs.declared.Refusal.TheVariants.{BadlyWritten}
 use Rattle.pattern.specs.Expressions.{Regex, empty}
 use Rattle.pattern.specs.Grammar.{Repeated}
 use Rattle.pattern.specs.Automaton.{Frame, frame, later, Mode, ready, after, escape, in_class, in_count, state, push, opened, closed, verdict}
 use Rattle.pattern.specs.Drafts.{settled, AtomKept, BarKept, RepeatKept, ClosedKept}
-use Rattle.pattern.specs.Refusals.{Stops}
+use Rattle.pattern.specs.Refusals.{Stops, refused}
 use Rattle.pattern.specs.Signs.{SignStops, Waits}
-use Rattle.pattern.specs.Walks.{Halts, Leads, Steps, StepStops, GroupStops, AlternativesRead, AlternativesStop}
+use Rattle.pattern.specs.Walks.{Halts, Leads, Steps, StepStops, GroupRead, GroupStops, AlternativesRead, AlternativesStop}
 use Rattle.pattern.proofs.Runs.{NoRepeat, settles, verdict_alive}
 use Rattle.pattern.proofs.Completes.{repeat_runs}
 

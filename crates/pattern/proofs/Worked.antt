@@ -1,17 +1,18 @@
 -- The worked examples: the automaton is run on each pattern, and its set is looked into. Assumes nothing.
-use Rattle.std.proofs.Common.{◌≡◌, ℕ, zero, suc, ◌-◌, ◌≤◌, Bool, true, ◌&&◌, ltb, List, [], ◌∷◌, ◌++◌, length, get_or, codes, refl, ap, ◌∙◌, subst, inl, inr, arith, length-append}
+use Rattle.std.proofs.Common.{◌≡◌, ℕ, zero, suc, ◌+◌, ◌-◌, ◌*◌, ◌<◌, ◌≤◌, Bool, true, false, ◌&&◌, ltb, ◌⊎◌, List, [], ◌∷◌, ◌++◌, length, get_or, codes, sym, refl, ap, ◌∙◌, subst, inl, inr, ⊎_elim, arith, length-append}
 use Rattle.std.specs.List.{flat_map, AllByRecursion}
 use Rattle.std.proofs.lemmas.Bool.{and_parts, ltb-true}
+use Rattle.fault.specs.declared.Fault.{Fault}
 use Rattle.fault.specs.declared.Refusal.TheVariants.{BadlyWritten, TooManyPlaces}
-use Rattle.pattern.specs.Expressions.{Regex, byte, one, empty, seq, alt, star, plus, counted, Takes}
+use Rattle.pattern.specs.Expressions.{Regex, Symbol, byte, one, empty, seq, alt, star, plus, opt, counted, Takes}
 use Rattle.pattern.specs.Places.{places}
-use Rattle.pattern.specs.Grammar.{Written}
+use Rattle.pattern.specs.Grammar.{Written, WellWritten}
 use Rattle.pattern.specs.Beginnings.{LongestBeginning}
-use Rattle.pattern.specs.Meaning.{Lang, Empty, Union, Copies, Matches}
+use Rattle.pattern.specs.Meaning.{Lang, Empty, Joined, Union, Closure, Copies, Means, Matches}
 use Rattle.pattern.specs.Automaton.{good, bad, verdict, start}
 use Rattle.pattern.specs.Refusals.{refused}
 use Rattle.pattern.specs.Reading.{Granted, Refused}
-use Rattle.pattern.specs.Examples.{Examples}
+use Rattle.pattern.specs.Examples.{Examples, ◌yields◌, ◌omits◌}
 use Rattle.pattern.proofs.Sounds.{Bytes, sound}
 use Rattle.pattern.proofs.Faults.{longest, not_written}
 

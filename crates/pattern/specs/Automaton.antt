@@ -4,7 +4,7 @@
 --   Mode          between two atoms, after an atom that can still be repeated, or inside a sign
 --   State         a mode, the innermost open pattern, the depth left, and the patterns around it
 --   verdict s w   how w goes on from s: read as an expression, or refused with so many bytes unread
-use Rattle.std.specs.Prelude.{ℕ, zero, suc, ◌+◌, ◌-◌, ◌*◌, Bool, cond, ◌&&◌, ◌||◌, List, [], ◌∷◌, ◌++◌, length, ◌==◌, nat_le}
+use Rattle.std.specs.Prelude.{ℕ, zero, suc, ◌+◌, ◌-◌, ◌*◌, Bool, true, false, cond, not, ◌&&◌, ◌||◌, List, [], ◌∷◌, ◌++◌, length, ◌==◌, nat_le}
 use Rattle.pattern.specs.Characters.{Kind, bar, times, add, query, open', close', square, unsquare, brace, unbrace, dot, backslash, plain, kind, escapable, ClassKind, ends, slash, hyphen, barred, itself, class_kind}
 use Rattle.pattern.specs.Expressions.{Range, Regex, byte, any, one, empty, seq, alt, star, plus, opt, counted}
 

@@ -4,7 +4,7 @@
 --   ClassRead p at end    the inside of the class is p from `at` to `end`, where its bracket stands
 --   ClassHeard .. E       its members satisfy E
 --   ClassStops            the fault has the place where the automaton stops
-use Rattle.std.specs.Prelude.{◌≡◌, ℕ, ◌+◌, ◌<◌, ◌≤◌, cond, List, [], ◌∷◌, length, take, drop, ◌==◌, ◌≢◌, slice_index, slice_index_or, slice_range}
+use Rattle.std.specs.Prelude.{◌≡◌, ℕ, ◌+◌, ◌-◌, ◌<◌, ◌≤◌, cond, List, [], ◌∷◌, length, take, drop, ◌==◌, ◌≢◌, slice_index, slice_index_or, slice_range}
 use Rattle.fault.specs.declared.Fault.{Fault}
 use Rattle.pattern.specs.declared.class.Progress.{Progress}
 use Rattle.pattern.specs.declared.class.Progress.TheVariants.{Empty, Between, Member, Dash, Escape, DashEscape}

@@ -6,7 +6,7 @@
 use Rattle.std.specs.Prelude.{◌≡◌, true, false}
 use Rattle.pattern.specs.declared.draft.Draft.{Draft}
 use Rattle.pattern.specs.Expressions.{Regex, empty}
-use Rattle.pattern.specs.Automaton.{first, later, Mode, ready, after, escape, in_class, in_count, Frame, frame, push, closed}
+use Rattle.pattern.specs.Automaton.{Sofar, first, later, Mode, ready, after, escape, in_class, in_count, Frame, frame, push, closed}
 
 abbrev pub Opens : {T : Type 0} → (T → Regex → Type 0) → Draft T → Frame → Type 0
 Opens S c (frame first e) = (c.later ≡ false) × S c.branch e

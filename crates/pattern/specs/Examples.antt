@@ -2,7 +2,7 @@
 --
 --   p yields w   w is in the set that the pattern p means
 --   p omits w    p is well written, and w is not in its set
-use Rattle.std.specs.Prelude.{ℕ, List, codes}
+use Rattle.std.specs.Prelude.{ℕ, List, [], codes}
 use Rattle.fault.specs.declared.Refusal.TheVariants.{BadlyWritten, TooManyPlaces}
 use Rattle.pattern.specs.Expressions.{Regex}
 use Rattle.pattern.specs.Grammar.{Written, deepest}

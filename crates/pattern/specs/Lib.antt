@@ -9,6 +9,7 @@ pub mod Refusals
 pub mod Signs
 pub mod Drafts
 pub mod Reading
+pub mod Records
 pub mod Repeats
 pub mod Classes
 pub mod Walks

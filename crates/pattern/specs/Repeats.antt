@@ -4,7 +4,7 @@
 --   NumberStops, CountsStop       the fault has the place where the automaton stops
 --   NumberRefused, CountsRefused  and no count, or no counts, stand there
 --   CountsRead p at m n end       from `at` to `end` stand the counts m and n, with the closing brace
-use Rattle.std.specs.Prelude.{◌≡◌, ℕ, ◌+◌, ◌<◌, ◌≤◌, false, List, ◌++◌, length, take, drop, decimal, slice_index}
+use Rattle.std.specs.Prelude.{◌≡◌, ℕ, ◌+◌, ◌<◌, ◌≤◌, false, List, [], ◌∷◌, ◌++◌, length, take, drop, decimal, slice_index}
 use Rattle.fault.specs.declared.Fault.{Fault}
 use Rattle.fault.specs.declared.Refusal.TheVariants.{BadlyWritten}
 use Rattle.pattern.specs.Expressions.{Regex}

@@ -9,6 +9,7 @@ mod draft;
 pub mod examples;
 pub mod gathering;
 mod reader;
+mod reading;
 pub mod record;
 mod refusal;
 mod repeat;

@@ -1,5 +1,5 @@
 -- What a state stands for after a call. Assumes nothing.
-use Rattle.std.proofs.Common.{◌≡◌, ℕ, zero, suc, ◌*◌, ◌^◌, ◌≤◌, true, List, [], ◌∷◌, map, length, take, set, replicate, None, Option, unwrap_or, sym, refl, ap, ◌∙◌, subst, ⊎_elim, arith, length-take}
+use Rattle.std.proofs.Common.{◌≡◌, ℕ, zero, suc, ◌*◌, ◌^◌, ◌≤◌, true, List, [], ◌∷◌, map, length, take, set, replicate, Some, None, Option, unwrap_or, sym, refl, ap, ◌∙◌, subst, ⊎_elim, arith, length-take}
 use lib.ListN.{length-map}
 use Rattle.std.proofs.ByRecursion.{All-set}
 use Rattle.std.proofs.lemmas.List.{map-set, take-replicate, nil_from_length}
@@ -16,6 +16,7 @@ use Rattle.roll.specs.Refusals.{Call, fault, unless, first, tables, refusal}
 use Rattle.roll.specs.Stands.{State, slots, Stands}
 use Rattle.roll.specs.Steps.{refusal_at}
 use Rattle.roll.specs.declared.roll.Roll.{Roll}
+use Rattle.roll.specs.declared.slot.Slot.{Slot}
 use Rattle.roll.specs.declared.slot.Slot.TheVariants.{Empty}
 use Rattle.roll.proofs.Sizing.{sized_cases, sized_few}
 
@@ -61,12 +62,19 @@ take_set (suc n) [] i a = refl
 take_set (suc n) (x ∷ xs) zero a = refl
 take_set (suc n) (x ∷ xs) (suc i) a = ap (λ l. x ∷ l) (take_set n xs i a)
 
--- one slot's record is set, and its text replaced in both tables
+-- one slot's record is set
+pub slots_set : (was is : List Slot) (size now n : ℕ) (m : Slot) → is ≡ set was n m → now ≡ size → take now is ≡ set (take size was) n m
+slots_set was is size now n m marked sized = (λ i. take (sized i) (marked i)) ∙ take_set size was n m
+
+pub slots_empty : (is : List Slot) (now n : ℕ) → is ≡ replicate 128 Empty → now ≡ n → n ≤ 128 → take now is ≡ replicate n Empty
+slots_empty is now n marked sized few = (λ i. take (sized i) (marked i)) ∙ take-replicate n 128 Empty few
+
+-- and its text replaced in both tables
 pub stands_set : {L : Type 0} (leg : List ℕ → L) (s is : State L) (p : Plain) → Stands leg s p → (n : ℕ) (o : Option (List ℕ)) → Bytes (unwrap_or o []) → is.roll.slots ≡ set s.roll.slots n (mark o) → is.roll.size ≡ s.roll.size → is.legs ≡ cells leg (set (texts p) n (unwrap_or o [])) → is.tallies ≡ cells tally (set (texts p) n (unwrap_or o [])) → Stands leg is (set p n o)
 stands_set leg s is p stands n o bytes marked sized legs tallies =
     let new : texts (set p n o) ≡ set (texts p) n (unwrap_or o []) = map-set (λ o. unwrap_or o []) p n o in
     record {
-      held = (λ i. take (sized i) (marked i)) ∙ take_set s.roll.size s.roll.slots n (mark o) ∙ ap (λ l. set l n (mark o)) stands.held ∙ sym (map-set mark p n o);
+      held = slots_set s.roll.slots is.roll.slots s.roll.size is.roll.size n (mark o) marked sized ∙ ap (λ l. set l n (mark o)) stands.held ∙ sym (map-set mark p n o);
       bytes = subst AllBytes (sym new) (All-set Bytes (texts p) n (unwrap_or o []) bytes stands.bytes);
       legs = legs ∙ ap (cells leg) (sym new);
       tallies = tallies ∙ ap (cells tally) (sym new);
@@ -77,7 +85,7 @@ pub stands_empty : {L : Type 0} (leg : List ℕ → L) (is : State L) (n : ℕ) 
 stands_empty leg is n marked sized few legs tallies =
     let none : texts (replicate n None) ≡ replicate n [] = map_replicate (λ o. unwrap_or o []) n None in
     record {
-      held = (λ i. take (sized i) (marked i)) ∙ take-replicate n 128 Empty few ∙ sym (map_replicate mark n None);
+      held = slots_empty is.roll.slots is.roll.size n marked sized few ∙ sym (map_replicate mark n None);
       bytes = subst AllBytes (sym none) (all_empty n);
       legs = legs ∙ ap (cells leg) (sym none);
       tallies = tallies ∙ ap (cells tally) (sym none);

@@ -4,7 +4,7 @@
 --   after p c       the plain roll after a granted call
 --   Gives M p c a   a is what the plain roll answers to a granted call, where M is the machine's set
 --   Answers ..      the same with the refusals: the call is lent l legs and t tallies
-use Rattle.std.specs.Prelude.{◌≡◌, ℕ, Bool, List, replicate, Some, None, Decides, Option, MatchOption, slice_set}
+use Rattle.std.specs.Prelude.{◌≡◌, ℕ, Bool, List, set, replicate, Some, None, Decides, Option, MatchOption, slice_set}
 use Rattle.fault.specs.declared.Fault.{Fault}
 use Rattle.folding.specs.Losing.{FirstLost}
 use Rattle.folding.specs.Tallies.{tally}

@@ -1,13 +1,13 @@
 // The calls of a roll. With each are lent 2N legs and 2N tallies, where the roll has N slots.
-ghost use Rattle.std.specs.Prelude.{◌≡◌, ℕ, ◌≤◌, List, Decides};
-ghost use Rattle.folding.specs.Texts.{Bytes};
+ghost use Rattle.std.specs.Prelude.{◌≡◌, ◌≤◌, []};
 ghost use Rattle.std.specs.Result.{result_err};
-ghost use Rattle.roll.specs.Calls.{done, tallied, judged, named};
+ghost use Rattle.roll.specs.Calls.{tallied, judged, named};
 ghost use Rattle.roll.specs.Law.{Law};
-ghost use Rattle.roll.specs.Refusals.{withdrawal, verdict, totals, culprit, fault as fault_at, tables, room};
+ghost use Rattle.roll.specs.Refusals.{verdict, totals, culprit, fault as fault_at, tables, room};
+ghost use Rattle.roll.specs.Runs.{Run};
 ghost use Rattle.roll.specs.Sizes.{allowed as allowed_size};
 ghost use Rattle.roll.specs.Stands.{state};
-ghost use Rattle.roll.specs.Steps.{heard, AsMade, Opens, Files, Does};
+ghost use Rattle.roll.specs.Steps.{heard, AsMade, Opens, Files, Withdraws, Does};
 
 use crate::roll::Roll;
 use crate::slot::Slot;
@@ -48,19 +48,13 @@ fn fitting(n: usize, legs: usize, tallies: usize) -> Result<(), Fault>
     Ok(())
 }
 
-// Whether the machine means the text of this leg.
-fn judge<M: Judging>(machine: &M, at: &M::Leg) -> bool
-    ensures cases { (w : List ℕ) → Bytes w → at.now ≡ M.Folding.leg machine.now w → Decides result (M.Judging.means machine.now w) }
-{
-    machine.accepts(at)
-}
-
 impl Roll {
     // A roll with no slots, which holds the empty text. `law` is what the product is for: it speaks
     // of every run of a roll under a machine of kind M, and of any two runs, the other under a
     // machine of kind O (which may be the same kind).
     pub fn new<M: Judging, O: Judging>() -> Roll
         ensures made { AsMade result }
+        ensures begins { (m : M) → Run (M.Folding.leg m) (M.Judging.means m) (state result [] []) [] }
         ensures law { (m : M) (o : O) → Law (M.Folding.leg m) (M.Judging.means m) (O.Folding.leg o) (O.Judging.means o) }
     {
         Roll {
@@ -106,8 +100,8 @@ impl Roll {
             return Err(Returned { fault, strip });
         }
         let Strip { leg, tally, fed: _ } = strip;
-        let _ = cells::put(machine, legs, slot, leg);
-        let _ = cells::put(&Tallying, tallies, slot, tally);
+        cells::put(machine, legs, slot, leg).unwrap();
+        cells::put(&Tallying, tallies, slot, tally).unwrap();
         self.slots[slot].hold();
         Ok(tally)
     }
@@ -120,15 +114,15 @@ impl Roll {
         tallies: &mut [Tally],
         slot: usize,
     ) -> Result<(), Fault>
-        ensures does { Does (M.Folding.leg machine.now) (M.Judging.means machine.now) (state self.old legs.old tallies.old) (withdrawal slot) (heard (λ _. done) result) (state self.new legs.new tallies.new) }
+        ensures withdraws { Withdraws (M.Folding.leg machine.now) (M.Judging.means machine.now) (state self.old legs.old tallies.old) slot result (state self.new legs.new tallies.new) }
     {
         self.slot_at(slot, legs.len(), tallies.len())?;
         let mark = self.slots[slot];
         if !mark.is_held() {
             return Err(refuse(Refusal::SlotEmpty, slot));
         }
-        let _ = cells::put(machine, legs, slot, machine.empty());
-        let _ = cells::put(&Tallying, tallies, slot, Tallying.empty());
+        cells::put(machine, legs, slot, machine.empty()).unwrap();
+        cells::put(&Tallying, tallies, slot, Tallying.empty()).unwrap();
         self.slots[slot].clear();
         Ok(())
     }
@@ -143,7 +137,7 @@ impl Roll {
         ensures does { Does (M.Folding.leg machine.now) (M.Judging.means machine.now) (state self.now legs.now tallies.now) verdict (heard judged result) (state self.now legs.now tallies.now) }
     {
         fitting(self.size, legs.len(), tallies.len())?;
-        Ok(judge(machine, &cells::whole(machine, legs)))
+        Ok(machine.accepts(&cells::whole(machine, legs)))
     }
 
     // The tally of the joined text.

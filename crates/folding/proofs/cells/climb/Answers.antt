@@ -13,7 +13,7 @@ loop-i-init g c = rising_none _ _ _ (let within = c.requires.within in omega ari
 
 pub loop-i-preserved : goal.loop-i-preserved
 loop-i-preserved g c =
-    rising_more _ _ _ _ _ _ _ _ c.loop-i.invariant c.loop-i.auto.cells c.loop-i-test.true c.index-cells-i.is c.index-cells-i-in-loop-i.is c.join.ensures.joins
+    rising_more _ _ _ c.loop-i.i c.loop-i.cells c.index-cells-i.result c.index-cells-i-in-loop-i.result c.join.result c.loop-i.invariant c.loop-i.auto.cells c.loop-i-test.true c.index-cells-i.is c.index-cells-i-in-loop-i.is c.join.ensures.joins
 
 pub returns : goal.returns
 returns g c =

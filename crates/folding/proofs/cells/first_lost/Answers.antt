@@ -1,40 +1,43 @@
-use Rattle.std.proofs.Common.{◌≡◌, ℕ, ◌+◌, ◌<◌, List, length, take, arith, below_more}
-use Rattle.std.proofs.ByRecursion.{All-take}
-use Rattle.folding.specs.Cells.{cells}
-use Rattle.folding.specs.Texts.{Bytes, AllBytes, together}
-use Rattle.folding.proofs.Entries.{half_cells}
-use Rattle.folding.proofs.Gathering.{gather_more}
-use Rattle.folding.proofs.Texts.{bytes_together}
+use Rattle.std.proofs.Common.{◌≡◌, ℕ, ◌+◌, ◌<◌, List, length, take, Some, None, arith, below_more}
+use Rattle.folding.specs.Keeping.{Slotted}
+use Rattle.folding.specs.Losing.{FirstLost}
+use Rattle.folding.specs.Texts.{AllBytes, together}
+use Rattle.folding.proofs.Gathering.{bytes_upto, slotted, slot_more}
 use Rattle.folding.proofs.cells.first_lost.Given as given
 use Rattle.folding.proofs.cells.first_lost.Goals as goal
-use Rattle.folding.proofs.cells.first_lost.Goals.{After-join-so_far}
+use Rattle.folding.proofs.cells.first_lost.Goals.{After-fold-so_far}
 
 -- the leg so far, one slot on
-more : (g : given.Over) (c : After-join-so_far g) (slots : List (List ℕ)) → AllBytes slots → c.args.cells.now ≡ cells (g.M.Folding.leg c.args.machine.now) slots
-    → (c.loop-s.s < length slots) × (c.join-so_far.result ≡ g.M.Folding.leg c.args.machine.now (together (take (c.loop-s.s + 1) slots)))
-more g c slots bytes is =
+more : (g : given.Over) (c : After-fold-so_far g) (slots : List (List ℕ)) → AllBytes slots → Slotted (g.M.Folding.leg c.args.machine.now) c.args.cells.now slots
+    → (c.loop-s.s < length slots) × (c.fold-so_far.result ≡ g.M.Folding.leg c.args.machine.now (together (take (c.loop-s.s + 1) slots)))
+more g c slots bytes are =
     let leg = g.M.Folding.leg c.args.machine.now in
-    let n = half_cells leg slots _ is in
+    let n = are.0 in
     let taken = c.loop-s-test.true in
     let lt : c.loop-s.s < length slots = omega arith in
-    (lt, gather_more leg _ slots c.loop-s.s _ _ _ bytes is lt (c.loop-s.invariant slots bytes is).0 c.index-cells-n.is c.join-so_far.ensures.joins)
-
-text : (s : ℕ) (slots : List (List ℕ)) → AllBytes slots → Bytes (together (take (s + 1) slots))
-text s slots bytes = bytes_together (take (s + 1) slots) (All-take Bytes (s + 1) slots bytes)
+    (lt, slot_more leg c.args.cells.now slots c.loop-s.s _ _ bytes are lt (c.loop-s.invariant slots bytes are).0 c.fold-so_far.ensures.folds)
 
 pub loop-s-preserved : goal.loop-s-preserved
-loop-s-preserved g c slots bytes is =
-    let next = (more g (goal.at.loop-s-preserved g c).After-join-so_far slots bytes is).1 in
-    (next, below_more _ c.loop-s.s (c.loop-s.invariant slots bytes is).1 (c.if-lost.ensures.cases _ (text c.loop-s.s slots bytes) next))
+loop-s-preserved g c slots bytes are =
+    let next = (more g (goal.at.loop-s-preserved g c).After-fold-so_far slots bytes are).1 in
+    (next, below_more _ c.loop-s.s (c.loop-s.invariant slots bytes are).1 (c.if-lost.ensures.cases _ (bytes_upto slots (c.loop-s.s + 1) bytes) next))
 
 pub returns-then-lost : goal.returns-then-lost
-returns-then-lost g c = record {
-  value = λ slots bytes is.
-      let next = more g (goal.at.returns-then-lost g c).After-join-so_far slots bytes is in
-      (next.0, c.if-lost.ensures.cases _ (text c.loop-s.s slots bytes) next.1, (c.loop-s.invariant slots bytes is).1);
-}
+returns-then-lost g c =
+    let leg = g.M.Folding.leg c.args.machine.now in
+    let lost : (slots : List (List ℕ)) → AllBytes slots → Slotted leg c.args.cells.now slots → FirstLost (g.M.Judging.means c.args.machine.now) slots (Some c.loop-s.s) = λ slots bytes are.
+    let next = more g (goal.at.returns-then-lost g c).After-fold-so_far slots bytes are in
+    (next.0, c.if-lost.ensures.cases _ (bytes_upto slots (c.loop-s.s + 1) bytes) next.1, (c.loop-s.invariant slots bytes are).1) in
+    record {
+      value = λ slots bytes is. lost slots bytes (slotted leg _ slots is);
+      slots = lost;
+    }
 
 pub returns : goal.returns
-returns g c = record {
-  value = λ slots bytes is s lt. (c.loop-s.invariant slots bytes is).1 s (let n = half_cells (g.M.Folding.leg c.args.machine.now) slots _ is in let end = c.loop-s-test.false in omega arith);
-}
+returns g c =
+    let leg = g.M.Folding.leg c.args.machine.now in
+    let none : (slots : List (List ℕ)) → AllBytes slots → Slotted leg c.args.cells.now slots → FirstLost (g.M.Judging.means c.args.machine.now) slots None = λ slots bytes are s lt. (c.loop-s.invariant slots bytes are).1 s (let n = are.0 in let end = c.loop-s-test.false in omega arith) in
+    record {
+      value = λ slots bytes is. none slots bytes (slotted leg _ slots is);
+      slots = none;
+    }

@@ -1,8 +1,6 @@
-use Rattle.std.proofs.Common.{◌*◌, length, set, sym, refl, ap, ◌∙◌, arith, length-set}
-use Rattle.std.proofs.ByRecursion.{All-set}
-use Rattle.folding.specs.Texts.{Bytes}
-use Rattle.folding.proofs.Entries.{half_cells, length_cells}
-use Rattle.folding.proofs.Putting.{put_ready, put_spared, put_own}
+use Rattle.std.proofs.Common.{refl, arith}
+use Rattle.folding.proofs.Entries.{half_cells}
+use Rattle.folding.proofs.Putting.{put_cells, put_spared, put_own}
 use Rattle.folding.proofs.cells.put.Goals as goal
 
 pub returns-then-slot-n : goal.returns-then-slot-n
@@ -21,8 +19,7 @@ returns g c =
     let lt = c.if-slot-n.false in
     record {
       cases = lt;
-      cells = λ slots w bytes bytes' in' was one.
-          c.climb.ensures.joined (set slots c.args.slot w) (All-set Bytes slots c.args.slot w bytes' bytes) (length-set _ _ _ ∙ ap length was ∙ length_cells leg slots ∙ ap (λ n. 2 * n) (sym (length-set slots c.args.slot w))) (put_ready leg _ c.args.slot _ slots w in' was one);
-      others = put_spared leg _ _ _ _ c.climb.ensures.others (omega arith);
-      own = λ d _. put_own leg _ _ _ _ c.climb.ensures.others lt d;
+      cells = put_cells leg _ _ _ _ _ c.climb.ensures.joined (omega arith);
+      others = put_spared leg _ _ _ _ _ c.climb.ensures.others (omega arith) (omega arith);
+      own = λ d _. put_own leg _ _ _ _ _ c.climb.ensures.others (omega arith) lt d;
     }

@@ -1,4 +1,4 @@
-use Rattle.std.proofs.Common.{◌++◌, take, sym, ap, ◌∙◌, append_assoc, append-nil}
+use Rattle.std.proofs.Common.{◌++◌, take, sym, ap, ◌∙◌, append_assoc, append-nil, rules}
 use Rattle.std.proofs.lemmas.List.{take_more, take_all}
 use Rattle.folding.proofs.Texts.{bytes_slice, bytes_append, bytes_take}
 use Rattle.folding.proofs.fold.Folding.extend.Goals as goal

@@ -1,4 +1,4 @@
-use Rattle.std.proofs.Common.{sym, refl, arith}
+use Rattle.std.proofs.Common.{◌≡◌, sym, refl, arith}
 use Rattle.pattern.proofs.ClassWays.{itself_is, gone, ended, ends_between, ends_member, between_slash, member_slash, between_byte, member_byte, member_dash, dash_slash, dash_byte, escape_byte, dash_escape_byte}
 use Rattle.pattern.proofs.class.Progress.take.Goals as goal
 

@@ -1,4 +1,4 @@
-use Rattle.std.proofs.Common.{ℕ, zero, suc, ◌-◌, ◌%◌, length, replicate, arith, length-append}
+use Rattle.std.proofs.Common.{ℕ, zero, suc, ◌-◌, ◌%◌, ◌<◌, length, replicate, arith, length-append}
 use lib.ListN.{length-replicate}
 use Rattle.folding.specs.Texts.{Bytes}
 use Rattle.trials.proofs.thirds.ThirdsJudging.lost.Goals as goal
