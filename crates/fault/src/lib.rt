@@ -7,39 +7,27 @@ ghost use Rattle.fault.specs.Lines.{word, line};
 
 use std::fmt;
 
-// The eleven refusals, in the order of their numbers; docs/refusals.md says when each is given.
+// The eleven refusals, each with its number; docs/refusals.md says when each is given.
 #[derive(Clone, Copy, PartialEq, Eq, Debug)]
 pub enum Refusal {
-    PatternTooLong,
-    BadlyWritten,
-    TooManyPlaces,
-    TableLength,
-    TooManySets,
-    TooManyStarts,
-    StripTooLong,
-    SlotCount,
-    NoSuchSlot,
-    SlotEmpty,
-    BundleSize,
+    PatternTooLong = 1,
+    BadlyWritten = 2,
+    TooManyPlaces = 3,
+    TableLength = 4,
+    TooManySets = 5,
+    TooManyStarts = 6,
+    StripTooLong = 7,
+    SlotCount = 8,
+    NoSuchSlot = 9,
+    SlotEmpty = 10,
+    BundleSize = 11,
 }
 
 impl Refusal {
     pub fn number(self) -> u8
         ensures value { result ≡ number self }
     {
-        match self {
-            Refusal::PatternTooLong => 1,
-            Refusal::BadlyWritten => 2,
-            Refusal::TooManyPlaces => 3,
-            Refusal::TableLength => 4,
-            Refusal::TooManySets => 5,
-            Refusal::TooManyStarts => 6,
-            Refusal::StripTooLong => 7,
-            Refusal::SlotCount => 8,
-            Refusal::NoSuchSlot => 9,
-            Refusal::SlotEmpty => 10,
-            Refusal::BundleSize => 11,
-        }
+        self as u8
     }
 }
 
@@ -63,6 +51,25 @@ impl Layer {
             Layer::Bundle => "bundle",
         }
     }
+
+    // The fault of a call of this layer.
+    pub fn fault(self, refusal: Refusal, place: usize) -> Fault
+        ensures value { result ≡ record { refusal = refusal; layer = self; place = place } }
+    {
+        Fault {
+            refusal,
+            layer: self,
+            place,
+        }
+    }
+}
+
+impl fmt::Display for Layer {
+    ghost output = { λ l. Some (word l) };
+
+    fn fmt<W: fmt::Write>(&self, f: &mut fmt::Formatter<W>) -> fmt::Result {
+        f.write_str(self.word())
+    }
 }
 
 // `place` is a length, a position, a slot or a count, as the refusal says.
@@ -78,7 +85,7 @@ impl fmt::Display for Fault {
 
     fn fmt<W: fmt::Write>(&self, f: &mut fmt::Formatter<W>) -> fmt::Result {
         let number = self.refusal.number();
-        let layer = self.layer.word();
+        let layer = self.layer;
         let place = self.place;
         write!(f, "refused {number} layer {layer} place {place}")
     }
