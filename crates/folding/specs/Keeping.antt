@@ -1,17 +1,21 @@
 -- What the calls that keep the cells of texts in slots do, by the cells before and after. Assumes nothing.
 --
 --   half cells             how many slots there are
+--   slots cells            the slots' own cells, in slot order
 --   Clears leg was is      the cells are those of empty texts
 --   Puts leg was s one is  cells of texts became those of the same texts with w in slot s, where `one` is the leg of w
 --   Spares was s is        whatever the values, no cell but slot s and those above it has changed
 --   Ready leg slots i all  the cells are those of the texts, save perhaps cell i and those above it
 --   Gathers leg all r      r is the leg of the texts joined in slot order
-use Rattle.std.specs.Prelude.{◌≡◌, ℕ, ◌+◌, ◌*◌, ◌/◌, ◌<◌, List, [], length, replicate, slice_index_or, slice_set}
+use Rattle.std.specs.Prelude.{◌≡◌, ℕ, ◌+◌, ◌*◌, ◌/◌, ◌<◌, List, [], length, replicate, slice_index_or, slice_range, slice_set}
 use Rattle.folding.specs.Cells.{under, cells, Above}
 use Rattle.folding.specs.Texts.{Bytes, AllBytes, together}
 
 abbrev pub half : {L : Type 0} → List L → ℕ
 half all = length all / 2
+
+abbrev pub slots : {L : Type 0} → List L → List L
+slots all = slice_range all (half all) (2 * half all)
 
 abbrev pub Clears : {L : Type 0} → (List ℕ → L) → List L → List L → Type 0
 Clears leg was is =

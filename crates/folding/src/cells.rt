@@ -4,7 +4,7 @@ ghost use Rattle.std.specs.Prelude.{◌≡◌, ℕ, ◌+◌, ◌*◌, ◌/◌, �
 ghost use Rattle.fault.specs.declared.Layer.TheVariants.{Roll};
 ghost use Rattle.fault.specs.declared.Refusal.TheVariants.{NoSuchSlot};
 ghost use Rattle.folding.specs.Cells.{under, Tree, cells as cells_of, Above};
-ghost use Rattle.folding.specs.Keeping.{half, Clears, Puts, Spares, Gathers, Ready};
+ghost use Rattle.folding.specs.Keeping.{half, slots as slots_of, Clears, Puts, Spares, Gathers, Ready};
 ghost use Rattle.folding.specs.Legs.{Associative};
 ghost use Rattle.folding.specs.Losing.{FirstLost};
 ghost use Rattle.folding.specs.Texts.{AllBytes};
@@ -18,6 +18,7 @@ pub fn clear<F: Folding>(folding: &F, cells: &mut [F::Leg])
     ensures layout { (slots : List (List ℕ)) → Tree slots (under slots) }
 {
     let empty = folding.empty();
+    // Not `fill`: it asks for a clone that cannot fail, which a bound on `Copy` does not say.
     for cell in cells.iter_mut() {
         *cell = empty;
     }
@@ -38,11 +39,7 @@ pub fn put<F: Folding>(
 {
     let n = cells.len() / 2;
     if slot >= n {
-        return Err(Fault {
-            refusal: Refusal::NoSuchSlot,
-            layer: Layer::Roll,
-            place: slot,
-        });
+        return Err(Layer::Roll.fault(Refusal::NoSuchSlot, slot));
     }
     cells[n + slot] = leg;
     climb(folding, cells, n + slot);
@@ -56,6 +53,7 @@ fn climb<F: Folding>(folding: &F, cells: &mut [F::Leg], from: usize)
     ensures others { (k : ℕ) (d : F.Leg) → (Above k (from / 2) → ⊥) → slice_index_or cells.new k d ≡ slice_index_or cells.old k d }
 {
     let mut i = from / 2;
+    // No range goes from a cell to the one above it.
     while i > 0 {
         let left = cells[2 * i];
         let right = cells[2 * i + 1];
@@ -64,16 +62,23 @@ fn climb<F: Folding>(folding: &F, cells: &mut [F::Leg], from: usize)
     }
 }
 
+// The cells of the slots, in slot order.
+fn leaves<L>(cells: &[L]) -> &[L]
+    ensures value { result.now ≡ slots_of cells.now }
+{
+    let n = cells.len() / 2;
+    &cells[n..2 * n]
+}
+
 // The leg of the texts joined in slot order, by a fold from the left over the slots. The tree
 // groups the same joins otherwise: that both come to one leg is what `associative` says.
 pub fn fold<F: Folding>(folding: &F, cells: &[F::Leg]) -> F::Leg
     ensures value { Gathers (F.Folding.leg folding.now) cells.now result }
     ensures associative { Associative (F.Folding.leg folding.now) }
 {
-    let n = cells.len() / 2;
     let mut all = folding.empty();
-    for slot in 0..n {
-        all = folding.join(&all, &cells[n + slot]);
+    for leg in leaves(cells) {
+        all = folding.join(&all, leg);
     }
     all
 }
@@ -83,22 +88,18 @@ pub fn whole<F: Folding>(folding: &F, cells: &[F::Leg]) -> F::Leg
     ensures value { (k : ℕ) → half cells.now ≡ 2 ^ k → Gathers (F.Folding.leg folding.now) cells.now result }
     ensures none { length cells.now ≤ 1 → result ≡ F.Folding.leg folding.now [] }
 {
-    match cells.get(1) {
-        Some(root) => *root,
-        None => folding.empty(),
-    }
+    cells.get(1).copied().unwrap_or_else(|| folding.empty())
 }
 
 // The first slot at whose end the text so far is lost: the same fold, up to there.
 pub fn first_lost<M: Judging>(machine: &M, cells: &[M::Leg]) -> Option<usize>
     ensures value { (slots : List (List ℕ)) → AllBytes slots → cells.now ≡ cells_of (M.Folding.leg machine.now) slots → FirstLost (M.Judging.means machine.now) slots result }
 {
-    let n = cells.len() / 2;
     let mut so_far = machine.empty();
-    for s in 0..n {
-        so_far = machine.join(&so_far, &cells[n + s]);
+    for (slot, leg) in leaves(cells).iter().enumerate() {
+        so_far = machine.join(&so_far, leg);
         if machine.lost(&so_far) {
-            return Some(s);
+            return Some(slot);
         }
     }
     None

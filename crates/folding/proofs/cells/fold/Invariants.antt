@@ -3,7 +3,7 @@ use Rattle.folding.specs.Cells.{cells}
 use Rattle.folding.specs.Texts.{AllBytes, together}
 use Rattle.folding.proofs.cells.fold.Given as goal
 
-abbrev pub invariant-loop-slot : goal.invariant-loop-slot
-invariant-loop-slot g l =
+abbrev pub invariant-loop-leg : goal.invariant-loop-leg
+invariant-loop-leg g l =
     let leg = g.F.Folding.leg l.folding in
-    (slots : List (List ℕ)) → AllBytes slots → l.cells ≡ cells leg slots → l.all ≡ leg (together (take l.slot slots))
+    (slots : List (List ℕ)) → AllBytes slots → l.cells ≡ cells leg slots → l.all ≡ leg (together (take l.leg-index slots))

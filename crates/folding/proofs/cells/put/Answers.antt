@@ -9,7 +9,7 @@ pub returns-then-slot-n : goal.returns-then-slot-n
 returns-then-slot-n g c =
     let over = c.if-slot-n.true in
     record {
-      cases = (over, refl, refl);
+      cases = (over, c.fault.ensures.value, refl);
       cells = λ slots w bytes bytes' lt was one. absurd (let n = half_cells _ slots _ was in omega arith);
       others = λ k d off. refl;
       own = λ d lt. absurd (omega arith);
