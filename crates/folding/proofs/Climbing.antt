@@ -1,5 +1,5 @@
 -- One turn of the climb through the cells above a slot. Assumes nothing.
-use Rattle.std.proofs.Common.{◌≡◌, ℕ, ◌+◌, ◌*◌, ◌/◌, ◌<◌, ◌≤◌, List, [], length, get_or, set, sym, refl, ap, ◌∙◌, subst, ⊎_elim, arith, get_or-set_other, get_or-set_same}
+use Rattle.std.proofs.Common.{◌≡◌, ℕ, ◌+◌, ◌*◌, ◌/◌, ◌<◌, ◌≤◌, List, [], length, get_or, set, sym, ap, ◌∙◌, subst, ⊎_elim, arith, get_or-set_other, get_or-set_same}
 use Rattle.std.proofs.lemmas.Bool.{cases_eq}
 use Rattle.folding.specs.Cells.{under, cells, Above}
 use Rattle.folding.specs.Keeping.{Ready}
@@ -14,14 +14,6 @@ pub record Rising {L : Type 0} (leg : List ℕ → L) (top : ℕ) (was : List L)
   pub path : (k : ℕ) → Above k i → Above k top
   pub kept : (k : ℕ) (d : L) → (Above k top → ⊥) → get_or is k d ≡ get_or was k d
   pub legs : (slots : List (List ℕ)) → AllBytes slots → length was ≡ 2 * length slots → Ready leg slots top was → Ready leg slots i is
-
-pub rising_none : {L : Type 0} (leg : List ℕ → L) (top : ℕ) (was : List L) → 2 * top + 1 < length was → Rising leg top was top was
-rising_none leg top was low = record {
-  low = low;
-  path = λ k a. a;
-  kept = λ k d off. refl;
-  legs = λ slots bytes long ready. ready;
-}
 
 -- cell i is written anew
 pub rising_more : {L : Type 0} (leg : List ℕ → L) (top : ℕ) (was : List L) (i : ℕ) (is : List L) (left right j : L) → Rising leg top was i is → length is ≡ length was → 1 ≤ i → left ≡ get_or is (2 * i) left → right ≡ get_or is (2 * i + 1) right → Joins leg left right j → Rising leg top was (i / 2) (set is i j)

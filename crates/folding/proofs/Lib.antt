@@ -2,6 +2,5 @@ pub mod Climbing
 pub mod Entries
 pub mod Gathering
 pub mod Putting
-pub mod Tallies
 pub mod Texts
 pub mod Trees

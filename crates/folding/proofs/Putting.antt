@@ -4,7 +4,7 @@ use Rattle.std.proofs.lemmas.Bool.{cases_eq}
 use Rattle.folding.specs.Cells.{under, cells, Above}
 use Rattle.folding.specs.Keeping.{half, Ready}
 use Rattle.folding.proofs.Entries.{length_cells, get_or_cells, half_cells}
-use Rattle.folding.proofs.Trees.{tree, under_set, above_self, above_up, above_le, not_above}
+use Rattle.folding.proofs.Trees.{tree, under_set, above_self, above_up, not_above}
 
 module _ {L : Type 0} (leg : List ℕ → L) (was : List L) (s : ℕ) (one : L) where
   -- slot s itself is right, and under the others nothing has changed
@@ -31,8 +31,3 @@ module _ {L : Type 0} (leg : List ℕ → L) (was : List L) (s : ℕ) (one : L) 
 
   pub put_spared : (is : List L) → ((k : ℕ) (d : L) → (Above k ((half was + s) / 2) → ⊥) → get_or is k d ≡ get_or (set was (half was + s) one) k d) → 1 ≤ half was + s → (k : ℕ) (d : L) → (Above k (half was + s) → ⊥) → get_or is k d ≡ get_or was k d
   put_spared is kept pos k d off = kept k d (λ a. off (above_up k (half was + s) a)) ∙ get_or-set_other was (half was + s) k one d (λ e. off (subst (λ x. Above x (half was + s)) (sym e) (above_self (half was + s) pos)))
-
-  pub put_own : (is : List L) → ((k : ℕ) (d : L) → (Above k ((half was + s) / 2) → ⊥) → get_or is k d ≡ get_or (set was (half was + s) one) k d) → s < half was → (d : L) → get_or is (half was + s) d ≡ one
-  put_own is kept lt d =
-      kept (half was + s) d (λ a. let le = above_le (half was + s) ((half was + s) / 2) a in omega arith)
-      ∙ get_or-set_same was (half was + s) one d (omega arith)

@@ -1,10 +1,7 @@
-use Rattle.std.proofs.Common.{◌++◌, take, sym, ap, ◌∙◌, append_assoc, append-nil}
-use Rattle.std.proofs.lemmas.List.{take_more, take_all}
+use Rattle.std.proofs.Common.{◌++◌, take, sym, ap, ◌∙◌, append_assoc}
+use Rattle.std.proofs.lemmas.List.{take_more}
 use Rattle.folding.proofs.Texts.{bytes_slice, bytes_append, bytes_take}
 use Rattle.folding.proofs.fold.Folding.extend.Goals as goal
-
-pub loop-c-init : goal.loop-c-init
-loop-c-init g c w bytes is = is ∙ sym (ap (g.Self.Folding.leg c.args.self.now) (append-nil w))
 
 pub loop-c-preserved : goal.loop-c-preserved
 loop-c-preserved g c w bytes is =
@@ -15,8 +12,3 @@ loop-c-preserved g c w bytes is =
     c.step-r.ensures.steps (w ++ take i text) so_far (c.loop-c.invariant w bytes is)
     ∙ ap leg (append_assoc w (take i text) _)
     ∙ ap (λ t. leg (w ++ t)) (sym (take_more text i 0 c.loop-c-test.true))
-
-pub returns : goal.returns
-returns g c = record {
-  extends = λ w bytes is. c.loop-c.invariant w bytes is ∙ ap (λ t. g.Self.Folding.leg c.args.self.now (w ++ t)) (take_all _ _ c.loop-c-test.false);
-}
