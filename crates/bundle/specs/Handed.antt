@@ -1,10 +1,11 @@
 -- What the decoder's values stand for: a pattern, strips, one strip. Assumes nothing.
 --
 --   piece s       the strip that is handed out as s
+--   Short s       the text of s is no longer than a bundle's 16 bits can say
 --   left s        the strips that are still to come
 --   pattern_of b  the pattern of the bundle b
 --   strips_of b   its strips, in their order
-use Rattle.std.specs.Prelude.{ℕ, List}
+use Rattle.std.specs.Prelude.{ℕ, ◌<◌, List, length}
 use Rattle.bundle.specs.declared.decode.Bundle.{Bundle}
 use Rattle.bundle.specs.declared.walk.Strip.{Strip}
 use Rattle.bundle.specs.declared.walk.Strips.{Strips}
@@ -13,6 +14,9 @@ use Rattle.bundle.specs.Layout.{Piece}
 
 abbrev pub piece : Strip → Piece
 piece s = record { slot = s.slot; text = s.text.now }
+
+abbrev pub Short : Strip → Type 0
+Short s = length s.text.now < 65536
 
 abbrev pub left : Strips → List Piece
 left s = cut s.slots.now s.lengths.now s.texts.now

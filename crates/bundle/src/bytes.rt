@@ -5,7 +5,7 @@ ghost use Rattle.bundle.specs.Sizes.{word16};
 fn byte(bytes: &[u8], at: usize) -> u8
     ensures { result ≡ slice_index bytes.now at }
 {
-    if at < bytes.len() { bytes[at] } else { 0 }
+    bytes.get(at).copied().unwrap_or(0)
 }
 
 // The 16-bit number at `at`, high byte first.

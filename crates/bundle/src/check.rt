@@ -12,6 +12,7 @@ use folding::fold::Folding;
 use folding::tally::Tallying;
 use machines::assembling::build;
 use pattern::record::Pattern;
+use roll::lent::LentMut;
 use std::alloc::{AllocError, Global};
 
 const CELLS: usize = 256;
@@ -26,7 +27,12 @@ pub fn check(input: &[u8]) -> Result<Report, Fault>
     let machine = build(&pattern);
     let mut legs = [machine.empty(); CELLS];
     let mut tallies = [Tallying.empty(); CELLS];
-    report(&machine, &mut legs, &mut tallies, bundle.strips())
+    let mut lent = LentMut {
+        machine: &machine,
+        legs: &mut legs,
+        tallies: &mut tallies,
+    };
+    report(&mut lent, bundle.strips())
 }
 
 // The same as the text that a program prints.

@@ -69,11 +69,7 @@ impl<'a> Bundle<'a> {
         if right_size(input) {
             Ok(parted(input))
         } else {
-            Err(Fault {
-                refusal: Refusal::BundleSize,
-                layer: Layer::Bundle,
-                place: input.len().min(LIMIT + 1),
-            })
+            Err(Layer::Bundle.fault(Refusal::BundleSize, input.len().min(LIMIT + 1)))
         }
     }
 

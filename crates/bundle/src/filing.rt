@@ -1,12 +1,12 @@
 // Files the strips of a bundle into a roll of 128 slots, and puts the questions to it.
-ghost use Rattle.std.specs.Prelude.{◌≡◌, ◌<◌, [], ◌∷◌, length};
+ghost use Rattle.std.specs.Prelude.{◌≡◌, [], ◌∷◌, length};
 ghost use Rattle.std.specs.List.{AllByRecursion};
 ghost use Rattle.roll.specs.Calls.{after};
 ghost use Rattle.roll.specs.Plain.{Plain};
 ghost use Rattle.roll.specs.Stands.{state, Stands};
 ghost use Rattle.folding.specs.Texts.{Bytes};
 ghost use Rattle.bundle.specs.Filing.{Filed};
-ghost use Rattle.bundle.specs.Handed.{piece, left};
+ghost use Rattle.bundle.specs.Handed.{piece, left, Short};
 ghost use Rattle.bundle.specs.Layout.{OfBytes};
 ghost use Rattle.bundle.specs.Outcome.{opened, filed, Reported};
 
@@ -14,64 +14,49 @@ use crate::report::Report;
 use crate::walk::{Strip, Strips};
 use fault::Fault;
 use folding::fold::Judging;
-use folding::tally::Tally;
 use roll::feeding;
+use roll::lent::LentMut;
 use roll::roll::Roll;
 
 const SLOTS: usize = 128;
 
-fn file_one<M: Judging>(
-    roll: &mut Roll,
-    machine: &M,
-    legs: &mut [M::Leg],
-    tallies: &mut [Tally],
-    strip: Strip,
-) -> Result<(), Fault>
-    requires short { length strip.text.now < 65536 }
-    ensures filed { (p : Plain) → length p ≡ 128 → Stands (M.Folding.leg machine.now) (state roll.old legs.old tallies.old) p → Filed (M.Folding.leg machine.now) (filed p (piece strip.entry ∷ [])) result (state roll.new legs.new tallies.new) }
+fn file_one<M: Judging>(roll: &mut Roll, lent: &mut LentMut<M>, strip: Strip) -> Result<(), Fault>
+    requires short { Short strip }
+    ensures filed { (p : Plain) → length p ≡ 128 → Stands (M.Folding.leg lent.old.machine.now) (state roll.old lent.old.legs.now lent.old.tallies.now) p → Filed (M.Folding.leg lent.old.machine.now) (filed p (piece strip.entry ∷ [])) result (state roll.new lent.new.legs.now lent.new.tallies.now) }
+    ensures machine { lent.new.machine ≡ lent.old.machine }
+    ensures tables { (lent.new.legs.ghost_name ≡ lent.old.legs.ghost_name) × (lent.new.tallies.ghost_name ≡ lent.old.tallies.ghost_name) }
 {
-    let mut open = feeding::begin(machine);
-    feeding::feed(machine, &mut open, strip.text)?;
-    match roll.file(machine, legs, tallies, strip.slot as usize, open) {
-        Ok(_) => Ok(()),
-        Err(returned) => Err(returned.fault),
-    }
+    let open = feeding::strip_of(lent.machine, strip.text)?;
+    roll.file(lent, strip.slot as usize, open)?;
+    Ok(())
 }
 
 // Files the strips in their order, a later one for a slot in place of an earlier one. The first
 // refusal ends it.
-fn file_all<M: Judging>(
-    roll: &mut Roll,
-    machine: &M,
-    legs: &mut [M::Leg],
-    tallies: &mut [Tally],
-    mut strips: Strips,
-) -> Result<(), Fault>
-    ensures filed { (p : Plain) → length p ≡ 128 → Stands (M.Folding.leg machine.now) (state roll.old legs.old tallies.old) p → Filed (M.Folding.leg machine.now) (filed p (left strips.entry)) result (state roll.new legs.new tallies.new) }
+fn file_all<M: Judging>(roll: &mut Roll, lent: &mut LentMut<M>, strips: Strips) -> Result<(), Fault>
+    ensures filed { (p : Plain) → length p ≡ 128 → Stands (M.Folding.leg lent.old.machine.now) (state roll.old lent.old.legs.now lent.old.tallies.now) p → Filed (M.Folding.leg lent.old.machine.now) (filed p (left strips.entry)) result (state roll.new lent.new.legs.now lent.new.tallies.now) }
+    ensures machine { lent.new.machine ≡ lent.old.machine }
+    ensures tables { (lent.new.legs.ghost_name ≡ lent.old.legs.ghost_name) × (lent.new.tallies.ghost_name ≡ lent.old.tallies.ghost_name) }
 {
-    while let Some(strip) = strips.next() {
-        file_one(roll, machine, legs, tallies, strip)?;
+    for strip in strips {
+        file_one(roll, lent, strip)?;
     }
     Ok(())
 }
 
 // What the strips come to under a machine, with cells for 128 slots.
-pub(crate) fn report<M: Judging>(
-    machine: &M,
-    legs: &mut [M::Leg],
-    tallies: &mut [Tally],
-    strips: Strips,
-) -> Result<Report, Fault>
-    requires legs { length legs.old ≡ 256 }
-    requires tallies { length tallies.old ≡ 256 }
-    ensures reported { Reported (M.Judging.means machine.now) (filed opened (left strips.entry)) result }
+pub(crate) fn report<M: Judging>(lent: &mut LentMut<M>, strips: Strips) -> Result<Report, Fault>
+    requires legs { length lent.old.legs.now ≡ 256 }
+    requires tallies { length lent.old.tallies.now ≡ 256 }
+    ensures reported { Reported (M.Judging.means lent.old.machine.now) (filed opened (left strips.entry)) result }
 {
     let mut roll = Roll::new::<M, M>();
-    roll.open(machine, SLOTS, legs, tallies)?;
-    file_all(&mut roll, machine, legs, tallies, strips)?;
+    roll.open(lent, SLOTS)?;
+    file_all(&mut roll, lent, strips)?;
+    let lent = lent.shared();
     Ok(Report {
-        verdict: roll.verdict(machine, legs, tallies)?,
-        totals: roll.totals(machine, legs, tallies)?,
-        culprit: roll.culprit(machine, legs, tallies)?,
+        verdict: roll.verdict(&lent)?,
+        totals: roll.totals(&lent)?,
+        culprit: roll.culprit(&lent)?,
     })
 }

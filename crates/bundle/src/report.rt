@@ -7,7 +7,7 @@ use std::fmt;
 
 // Whether the joined text follows the pattern, its bytes and line ends, and the first slot at whose
 // end nothing that follows could make it do so.
-#[derive(Clone, Copy)]
+#[derive(Clone, Copy, PartialEq, Eq, Debug)]
 pub struct Report {
     pub verdict: bool,
     pub totals: Tally,
@@ -21,15 +21,13 @@ impl fmt::Display for Report {
         let verdict = yes_or_no(self.verdict);
         let bytes = self.totals.bytes;
         let lines = self.totals.lines;
+        write!(
+            f,
+            "verdict {verdict}\nbytes {bytes}\nlines {lines}\nlost at "
+        )?;
         match self.culprit {
-            Some(slot) => write!(
-                f,
-                "verdict {verdict}\nbytes {bytes}\nlines {lines}\nlost at {slot}"
-            ),
-            None => write!(
-                f,
-                "verdict {verdict}\nbytes {bytes}\nlines {lines}\nlost at none"
-            ),
+            Some(slot) => write!(f, "{slot}"),
+            None => f.write_str("none"),
         }
     }
 }

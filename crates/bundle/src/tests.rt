@@ -1,29 +1,13 @@
 // The example of docs/bundles.md, and inputs of a wrong size.
 use crate::decode::Bundle;
 use crate::walk::Strip;
-use fault::{Fault, Layer, Refusal};
+use fault::{Layer, Refusal};
 use std::test::Fail;
 
 const EXAMPLE: &[u8] = b"\x00\x03\x00\x02\x01\x00\x01\x00\x04\x00\x04\x00\x04.*tow\none\ntwo\n";
 
-fn same(got: Option<Strip>, slot: u8, text: &[u8]) -> bool {
-    match got {
-        Some(strip) => strip.slot == slot && strip.text == text,
-        None => false,
-    }
-}
-
 fn refused_at(input: &[u8], place: usize) -> bool {
-    match Bundle::decode(input) {
-        Ok(_) => false,
-        Err(f) => {
-            f == Fault {
-                refusal: Refusal::BundleSize,
-                layer: Layer::Bundle,
-                place,
-            }
-        }
-    }
+    Bundle::decode(input).err() == Some(Layer::Bundle.fault(Refusal::BundleSize, place))
 }
 
 #[test]
@@ -31,10 +15,11 @@ fn hands_out_the_example(rt: HostRuntime) -> Result<(), Fail> {
     let bundle = Bundle::decode(EXAMPLE)?;
     assert!(rt; bundle.pattern() == b".*".as_slice());
     let mut strips = bundle.strips();
-    assert!(rt; same(strips.next(), 1, b"tow\n"));
-    assert!(rt; same(strips.next(), 0, b"one\n"));
-    assert!(rt; same(strips.next(), 1, b"two\n"));
-    assert!(rt; strips.next().is_none());
+    let handed_out = [(1, b"tow\n"), (0, b"one\n"), (1, b"two\n")];
+    for (slot, text) in handed_out {
+        assert_eq!(rt; strips.next(), Some(Strip { slot, text }));
+    }
+    assert_eq!(rt; strips.next(), None);
     Ok(())
 }
 

@@ -1,10 +1,11 @@
 // The strips of a bundle, handed out one by one.
-ghost use Rattle.std.specs.Prelude.{◌≡◌, ◌+◌, ◌<◌, [], ◌∷◌, length, IfSome, MatchOption};
-ghost use Rattle.bundle.specs.Handed.{piece, left};
+ghost use Rattle.std.specs.Prelude.{IfSome};
+ghost use Rattle.std.specs.Iterator.{YieldsFirstBy, item_count};
+ghost use Rattle.bundle.specs.Handed.{piece, left, Short};
 
 use crate::bytes;
 
-#[derive(Clone, Copy)]
+#[derive(Clone, Copy, PartialEq, Eq, Debug)]
 pub struct Strip<'a> {
     pub slot: u8,
     pub text: &'a [u8],
@@ -18,12 +19,14 @@ pub struct Strips<'a> {
     pub(crate) texts: &'a [u8],
 }
 
-impl<'a> Strips<'a> {
-    pub fn next(&mut self) -> Option<Strip<'a>>
-        ensures cases { MatchOption result ((left self.old ≡ []) × (left self.new ≡ [])) (λ s. left self.old ≡ piece s ∷ left self.new) }
-        ensures len { MatchOption result (length (left self.old) ≡ 0) (λ _. length (left self.new) + 1 ≡ length (left self.old)) }
-        ensures short { IfSome result (λ s. length s.text.now < 65536) }
-    {
+impl<'a> Iterator for Strips<'a> {
+    type Item = Strip<'a>;
+
+    ghost next_gives = { λ s r t. YieldsFirstBy piece left s r t × IfSome r Short };
+
+    ghost remaining = { item_count left };
+
+    fn next(&mut self) -> Option<Strip<'a>> {
         let Strips {
             slots,
             lengths,

@@ -14,7 +14,7 @@ fn main(rt: HostRuntime) -> anyhow::Result<()> {
         let Some((pattern, text)) = line.as_str().split_once('\t') else {
             return Err(anyhow!("a line without a tab"));
         };
-        let said = beside::said(pattern.as_bytes(), text.as_bytes());
+        let said = beside::compare(pattern.as_bytes(), text.as_bytes());
         println!(rt; "{said}")?;
     }
     Ok(())

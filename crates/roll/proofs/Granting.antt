@@ -1,6 +1,6 @@
 -- What a granted call says of the lent tables and the slot. Assumes nothing.
-use Rattle.std.proofs.Common.{◌≡◌, ℕ, ◌*◌, ◌<◌, Bool, true, false, eqb, ltb, length, get_or, Some, None, Option, sym, refl, ap, ◌∙◌, arith}
-use Rattle.std.proofs.lemmas.List.{get_or-take, get_or_default}
+use Rattle.std.proofs.Common.{◌≡◌, ℕ, ◌*◌, ◌<◌, Bool, true, false, eqb, ltb, List, length, get_or, Some, None, Option, sym, refl, ap, ◌∙◌, arith}
+use Rattle.std.proofs.lemmas.List.{get_or_default}
 use Rattle.std.proofs.lemmas.Bool.{eqb-true, ltb-true}
 use Rattle.fault.specs.declared.Fault.{Fault}
 use Rattle.fault.specs.declared.Refusal.TheVariants.{TableLength, SlotCount, NoSuchSlot, SlotEmpty}
@@ -10,9 +10,8 @@ use Rattle.roll.specs.Sizes.{allowed}
 use Rattle.roll.specs.Stands.{slots}
 use Rattle.roll.specs.Steps.{fault_of}
 use Rattle.roll.specs.declared.roll.Roll.{Roll}
+use Rattle.roll.specs.declared.slot.Slot.{Slot}
 use Rattle.roll.specs.declared.slot.Slot.TheVariants.{Held, Empty}
-use Rattle.roll.proofs.Sizing.{sized_few}
-use Rattle.roll.proofs.Standing.{length_slots}
 
 none≢some : {X : Type 0} (f : X) → None ≡ Some f → ⊥
 none≢some f e = let z : ◌≡◌ {A = ℕ} 0 1 = cc in omega arith
@@ -36,24 +35,19 @@ room_none n s l t e = ltb-true s n (unless_none (ltb s n) (fault NoSuchSlot s) (
 pub not_refused : (a : Answer) (f : Fault) → fault_of a ≡ None → a ≡ refused f → ⊥
 not_refused a f granted e = none≢some f (sym granted ∙ ap fault_of e)
 
--- the tables and slots of a roll, by its size
-pub tables_at : (r : Roll) (l t : ℕ) → None ≡ tables r.size l t → tables (length (slots r)) l t ≡ None
-tables_at r l t granted = ap (λ n. tables n l t) (length_slots r) ∙ sym granted
-
-pub room_at : (r : Roll) (s l t : ℕ) → None ≡ room r.size s l t → room (length (slots r)) s l t ≡ None
-room_at r s l t granted = ap (λ n. room n s l t) (length_slots r) ∙ sym granted
+-- the tables and slots of a roll, by the count of its slots that was taken
+pub tables_at : (n m l t : ℕ) → n ≡ m → None ≡ tables n l t → tables m l t ≡ None
+tables_at n m l t same granted = ap (λ k. tables k l t) (sym same) ∙ sym granted
 
 pub opening_none : (n l t : ℕ) → allowed n ≡ true → None ≡ tables n l t → first (unless (allowed n) (fault SlotCount n)) (tables n l t) ≡ None
 opening_none n l t size granted = ap (λ b. first (unless b (fault SlotCount n)) (tables n l t)) size ∙ sym granted
 
--- whether the slot to withdraw is held, by the roll's own record of it
-pub withdrawal_at : (r : Roll) (s l t : ℕ) (b : Bool) → None ≡ room r.size s l t → b ≡ is_held (get_or r.slots s Held) → refusal (slots r) (withdrawal s) l t ≡ unless b (fault SlotEmpty s)
-withdrawal_at r s l t b granted held =
-    let in' : s < r.size = room_none r.size s l t (sym granted) in
-    let full = r.full in
-    let few = sized_few r.size r.few in
-    let mark : get_or (slots r) s Empty ≡ get_or r.slots s Held = get_or-take r.size r.slots s Empty in' ∙ get_or_default r.slots s Empty Held (omega arith) in
-    ap (λ f. first f (unless (is_held (get_or (slots r) s Empty)) (fault SlotEmpty s))) (room_at r s l t granted)
+-- whether the slot to withdraw is held, by the mark that is read
+pub withdrawal_at : (r : Roll) (s l t : ℕ) (b : Bool) (marks : List Slot) → None ≡ room (length (slots r)) s l t → marks ≡ slots r → b ≡ is_held (get_or marks s Held) → refusal (slots r) (withdrawal s) l t ≡ unless b (fault SlotEmpty s)
+withdrawal_at r s l t b marks granted same held =
+    let in' : s < length (slots r) = room_none (length (slots r)) s l t (sym granted) in
+    let mark : get_or (slots r) s Empty ≡ get_or marks s Held = get_or_default (slots r) s Empty Held in' ∙ ap (λ l. get_or l s Held) (sym same) in
+    ap (λ f. first f (unless (is_held (get_or (slots r) s Empty)) (fault SlotEmpty s))) (sym granted)
     ∙ ap (λ x. unless (is_held x) (fault SlotEmpty s)) mark
     ∙ ap (λ x. unless x (fault SlotEmpty s)) (sym held)
 

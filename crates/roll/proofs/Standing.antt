@@ -1,8 +1,9 @@
 -- What a state stands for after a call. Assumes nothing.
-use Rattle.std.proofs.Common.{◌≡◌, ℕ, zero, suc, ◌*◌, ◌^◌, ◌≤◌, true, List, [], ◌∷◌, map, length, take, set, replicate, None, Option, unwrap_or, sym, refl, ap, ◌∙◌, subst, ⊎_elim, arith, length-take}
+use Rattle.std.proofs.Common.{◌≡◌, ℕ, zero, suc, ◌*◌, ◌^◌, ◌≤◌, true, List, [], ◌∷◌, ◌++◌, map, length, take, set, replicate, None, Option, unwrap_or, sym, refl, ap, ◌∙◌, subst, ⊎_elim, arith, append-nil, length-set, drop_of_length-le}
 use lib.ListN.{length-map}
+use Rattle.std.specs.List.{refill}
 use Rattle.std.proofs.ByRecursion.{All-set}
-use Rattle.std.proofs.lemmas.List.{map-set, take-replicate, nil_from_length}
+use Rattle.std.proofs.lemmas.List.{map-set, nil_from_length, take_all}
 use Rattle.std.proofs.lemmas.Bool.{eq-eqb}
 use Rattle.fault.specs.declared.Refusal.TheVariants.{TableLength}
 use Rattle.folding.specs.Cells.{cells}
@@ -14,17 +15,15 @@ use Rattle.roll.specs.Plain.{Plain, texts, whole, mark, marks}
 use Rattle.roll.specs.Sizes.{sized}
 use Rattle.roll.specs.Refusals.{Call, fault, unless, first, tables, refusal}
 use Rattle.roll.specs.Stands.{State, slots, Stands}
-use Rattle.roll.specs.Steps.{refusal_at}
-use Rattle.roll.specs.declared.roll.Roll.{Roll}
+use Rattle.roll.specs.Calls.{Answer}
+use Rattle.roll.specs.Steps.{fault_of, refusal_at, Refuses}
+use Rattle.roll.proofs.Granting.{not_refused}
 use Rattle.roll.specs.declared.slot.Slot.TheVariants.{Empty}
-use Rattle.roll.proofs.Sizing.{sized_cases, sized_few}
-
-pub length_slots : (r : Roll) → length (slots r) ≡ r.size
-length_slots r = let full = r.full in let few = sized_few r.size r.few in omega (arith, length-take r.size r.slots)
+use Rattle.roll.proofs.Sizing.{sized_cases}
 
 module _ {L : Type 0} {leg : List ℕ → L} {s : State L} {p : Plain} (stands : Stands leg s p) where
-  pub stands_size : s.roll.size ≡ length p
-  stands_size = sym (length_slots s.roll) ∙ ap length stands.held ∙ length-map p mark
+  pub stands_size : length (slots s.roll) ≡ length p
+  stands_size = ap length stands.held ∙ length-map p mark
 
   pub stands_sized : sized (length p) ≡ true
   stands_sized = subst (λ n. sized n ≡ true) stands_size s.roll.few
@@ -36,12 +35,12 @@ module _ {L : Type 0} {leg : List ℕ → L} {s : State L} {p : Plain} (stands :
   pub stands_tables : tables (length (slots s.roll)) (length s.legs) (length s.tallies) ≡ None
   stands_tables =
       let same = length-map p (λ o. unwrap_or o []) in
-      let size = length_slots s.roll ∙ stands_size in
+      let size = stands_size in
       let legs : length s.legs ≡ 2 * length (slots s.roll) = let long = ap length stands.legs ∙ length_cells leg (texts p) in omega arith in
       let tallies : length s.tallies ≡ 2 * length (slots s.roll) = let long = ap length stands.tallies ∙ length_cells tally (texts p) in omega arith in
       (λ i. first (unless (eq-eqb _ _ legs i) (fault TableLength 0)) (unless (eq-eqb _ _ tallies i) (fault TableLength 1)))
 
-  pub length_texts : length (texts p) ≡ s.roll.size
+  pub length_texts : length (texts p) ≡ length (slots s.roll)
   length_texts = length-map p _ ∙ sym stands_size
 
 -- the leg of the joined text, which one look gives at a power of two, and the empty text's where there are no slots
@@ -55,29 +54,33 @@ stands_whole of all p r size bytes is gathers none =
     (λ k. gathers k.exponent (halves ∙ same ∙ k.is) (texts p) bytes is)
     (sized_cases (length p) size)
 
-take_set : {X : Type 0} (n : ℕ) (xs : List X) (i : ℕ) (a : X) → take n (set xs i a) ≡ set (take n xs) i a
-take_set zero xs i a = refl
-take_set (suc n) [] i a = refl
-take_set (suc n) (x ∷ xs) zero a = refl
-take_set (suc n) (x ∷ xs) (suc i) a = ap (λ l. x ∷ l) (take_set n xs i a)
+-- one mark written through the vector's slice
+pub marked : {X : Type 0} (xs ys : List X) (i : ℕ) (a b : X) → ys ≡ xs → a ≡ b → refill (length xs) xs (set ys i a) ≡ set xs i b
+marked xs ys i a b same new =
+    let long : length (set ys i a) ≡ length xs = length-set ys i a ∙ ap length same in
+    ap (λ rest. take (length xs) (set ys i a ++ rest)) (drop_of_length-le xs (omega arith))
+    ∙ ap (take (length xs)) (append-nil (set ys i a))
+    ∙ take_all (length xs) (set ys i a) (omega arith)
+    ∙ ap (λ l. set l i a) same
+    ∙ ap (set xs i) new
 
 -- one slot's record is set, and its text replaced in both tables
-pub stands_set : {L : Type 0} (leg : List ℕ → L) (s is : State L) (p : Plain) → Stands leg s p → (n : ℕ) (o : Option (List ℕ)) → Bytes (unwrap_or o []) → is.roll.slots ≡ set s.roll.slots n (mark o) → is.roll.size ≡ s.roll.size → is.legs ≡ cells leg (set (texts p) n (unwrap_or o [])) → is.tallies ≡ cells tally (set (texts p) n (unwrap_or o [])) → Stands leg is (set p n o)
-stands_set leg s is p stands n o bytes marked sized legs tallies =
+pub stands_set : {L : Type 0} (leg : List ℕ → L) (s is : State L) (p : Plain) → Stands leg s p → (n : ℕ) (o : Option (List ℕ)) → Bytes (unwrap_or o []) → slots is.roll ≡ set (slots s.roll) n (mark o) → is.legs ≡ cells leg (set (texts p) n (unwrap_or o [])) → is.tallies ≡ cells tally (set (texts p) n (unwrap_or o [])) → Stands leg is (set p n o)
+stands_set leg s is p stands n o bytes marked legs tallies =
     let new : texts (set p n o) ≡ set (texts p) n (unwrap_or o []) = map-set (λ o. unwrap_or o []) p n o in
     record {
-      held = (λ i. take (sized i) (marked i)) ∙ take_set s.roll.size s.roll.slots n (mark o) ∙ ap (λ l. set l n (mark o)) stands.held ∙ sym (map-set mark p n o);
+      held = marked ∙ ap (λ l. set l n (mark o)) stands.held ∙ sym (map-set mark p n o);
       bytes = subst AllBytes (sym new) (All-set Bytes (texts p) n (unwrap_or o []) bytes stands.bytes);
       legs = legs ∙ ap (cells leg) (sym new);
       tallies = tallies ∙ ap (cells tally) (sym new);
     }
 
 -- empty slots
-pub stands_empty : {L : Type 0} (leg : List ℕ → L) (is : State L) (n : ℕ) → is.roll.slots ≡ replicate 128 Empty → is.roll.size ≡ n → n ≤ 128 → is.legs ≡ cells leg (replicate n []) → is.tallies ≡ cells tally (replicate n []) → Stands leg is (replicate n None)
-stands_empty leg is n marked sized few legs tallies =
+pub stands_empty : {L : Type 0} (leg : List ℕ → L) (is : State L) (n : ℕ) → slots is.roll ≡ replicate n Empty → is.legs ≡ cells leg (replicate n []) → is.tallies ≡ cells tally (replicate n []) → Stands leg is (replicate n None)
+stands_empty leg is n marked legs tallies =
     let none : texts (replicate n None) ≡ replicate n [] = map_replicate (λ o. unwrap_or o []) n None in
     record {
-      held = (λ i. take (sized i) (marked i)) ∙ take-replicate n 128 Empty few ∙ sym (map_replicate mark n None);
+      held = marked ∙ sym (map_replicate mark n None);
       bytes = subst AllBytes (sym none) (all_empty n);
       legs = legs ∙ ap (cells leg) (sym none);
       tallies = tallies ∙ ap (cells tally) (sym none);
@@ -90,3 +93,7 @@ stands_empty leg is n marked sized few legs tallies =
     all_empty : (k : ℕ) → AllBytes (replicate k [])
     all_empty zero = tt
     all_empty (suc k) = (tt, all_empty k)
+
+-- a granted call refuses nothing
+pub grants : {L : Type 0} {was is : State L} {c : Call} (a : Answer) → fault_of a ≡ None → refusal_at was c ≡ None → Refuses was c a is
+grants {was = was} {is = is} a free which = record { which = which ∙ sym free; same = λ f e. absurd {A = is ≡ was} (not_refused a f free e) }

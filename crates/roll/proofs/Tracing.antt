@@ -1,5 +1,5 @@
 -- Along every run the state stands for the plain roll, and every answer is the plain roll's. Assumes nothing.
-use Rattle.std.proofs.Common.{◌≡◌, ℕ, List, [], ◌∷◌, length, take, replicate, Some, None, Ok, Err, Result, sym, refl, ap, ◌∙◌, subst, MatchOption}
+use Rattle.std.proofs.Common.{◌≡◌, ℕ, List, [], ◌∷◌, length, replicate, Some, None, Ok, Err, Result, sym, refl, ap, ◌∙◌, subst, MatchOption}
 use Rattle.std.proofs.lemmas.List.{nil_from_length}
 use Rattle.fault.specs.declared.Fault.{Fault}
 use Rattle.folding.specs.Cells.{cells}
@@ -57,7 +57,7 @@ module _ {L : Type 0} (leg : List ℕ → L) (M : List ℕ → Type 0) where
 
   made_stands : (s : State L) → AsMade s.roll → s.legs ≡ [] → s.tallies ≡ [] → Stands leg s []
   made_stands s fresh legs tallies = record {
-    held = ap (λ n. take n s.roll.slots) fresh.0;
+    held = fresh;
     bytes = tt;
     legs = legs ∙ sym (nil_from_length (cells leg []) (length_cells leg []));
     tallies = tallies ∙ sym (nil_from_length (cells tally []) (length_cells tally []));

@@ -4,7 +4,7 @@
 --   slots r      the marks of the roll's slots, as many as it has
 --   Stands       a roll and its cells stand for a plain roll, under the machine with this leg function
 --   Holds        an open strip holds a text
-use Rattle.std.specs.Prelude.{◌≡◌, ℕ, List, length, take}
+use Rattle.std.specs.Prelude.{◌≡◌, ℕ, List, length}
 use Rattle.folding.specs.Cells.{cells}
 use Rattle.folding.specs.Tallies.{tally}
 use Rattle.folding.specs.Texts.{Bytes, AllBytes}
@@ -23,7 +23,7 @@ abbrev pub state : {L : Type 0} → Roll → List L → List Tally → State L
 state r l t = record { roll = r; legs = l; tallies = t }
 
 abbrev pub slots : Roll → List Slot
-slots r = take r.size r.slots
+slots r = r.slots.items
 
 pub record Stands {L : Type 0} (leg : List ℕ → L) (s : State L) (p : Plain) : Type 0 where
   pub held : slots s.roll ≡ marks p

@@ -7,6 +7,7 @@
 --   Files     both, for whatever text the strip holds; a refusal hands the strip back
 --   AsMade    what making a roll answers
 --   Begins, Feeds   a strip of no bytes; more bytes, or none where there would be too many
+--   FedAtOnce       a strip that was begun and fed this text
 --
 -- Open is what a granted call other than an opening answers and leaves where the state stands for no plain roll under this
 -- machine, or the strip holds no text under it: then `Keeps` says nothing, and `Refuses` still holds.
@@ -21,7 +22,6 @@ use Rattle.roll.specs.Refusals.{Call, opening, filing, fault, refusal}
 use Rattle.roll.specs.Sizes.{longest}
 use Rattle.roll.specs.Stands.{State, slots, Stands, Holds}
 use Rattle.roll.specs.declared.roll.Roll.{Roll}
-use Rattle.roll.specs.declared.slot.Slot.TheVariants.{Empty}
 use Rattle.roll.specs.declared.strip.Returned.{Returned}
 use Rattle.roll.specs.declared.strip.Strip.{Strip}
 
@@ -68,7 +68,7 @@ pub record Files {L : Type 0} (leg : List ℕ → L) (M : List ℕ → Type 0) (
 
 -- a roll with no slots
 abbrev pub AsMade : Roll → Type 0
-AsMade r = (r.size ≡ 0) × (r.slots ≡ replicate 128 Empty)
+AsMade r = r.slots.items ≡ []
 
 abbrev pub Begins : {L : Type 0} → (List ℕ → L) → Strip L → Type 0
 Begins leg s = Holds leg s []
@@ -77,3 +77,6 @@ pub record Feeds {L : Type 0} (leg : List ℕ → L) (was : Strip L) (bytes : Li
   pub text : Bytes bytes
   pub cases : MatchResult r (λ n. (n ≡ was.fed + length bytes) × (n ≤ longest) × (is.fed ≡ n)) (λ f. (longest < was.fed + length bytes) × (f ≡ fault StripTooLong was.fed) × (is ≡ was))
   pub holds : (w : List ℕ) → Holds leg was w → MatchResult r (λ n. Holds leg is (w ++ bytes)) (λ f. Holds leg is w)
+
+abbrev pub FedAtOnce : {L : Type 0} → (List ℕ → L) → List ℕ → Strip L → Type 0
+FedAtOnce {L} leg text is = (was : Strip L) × Begins leg was × Feeds leg was text (Ok (length text)) is

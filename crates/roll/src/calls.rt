@@ -1,17 +1,20 @@
-// The calls of a roll. With each are lent 2N legs and 2N tallies, where the roll has N slots.
-ghost use Rattle.std.specs.Prelude.{◌≡◌, ℕ, ◌≤◌, List, Decides};
+// The calls of a roll.
+ghost use Rattle.std.specs.Prelude.{◌≡◌, ℕ, ◌≤◌, List, length, replicate, Decides};
 ghost use Rattle.folding.specs.Texts.{Bytes};
 ghost use Rattle.std.specs.Result.{result_err};
 ghost use Rattle.roll.specs.Calls.{done, tallied, judged, named};
 ghost use Rattle.roll.specs.Law.{Law};
-ghost use Rattle.roll.specs.Refusals.{withdrawal, verdict, totals, culprit, fault as fault_at, tables, room};
+ghost use Rattle.roll.specs.Refusals.{withdrawal, verdict, totals, culprit, room};
 ghost use Rattle.roll.specs.Sizes.{allowed as allowed_size};
 ghost use Rattle.roll.specs.Stands.{state};
 ghost use Rattle.roll.specs.Steps.{heard, AsMade, Opens, Files, Does};
+ghost use Rattle.roll.specs.declared.slot.Slot.TheVariants.{Empty};
 
+use crate::lent::{Lent, LentMut};
 use crate::roll::Roll;
 use crate::slot::Slot;
 use crate::strip::{Returned, Strip};
+use arrayvec::ArrayVec;
 use fault::{Fault, Layer, Refusal};
 use folding::cells;
 use folding::fold::{Folding, Judging};
@@ -22,30 +25,6 @@ fn allowed(n: usize) -> bool
     ensures value { result ≡ allowed_size n }
 {
     matches!(n, 1 | 2 | 4 | 8 | 16 | 32 | 64 | 128)
-}
-
-fn refuse(refusal: Refusal, place: usize) -> Fault
-    ensures value { result ≡ fault_at refusal place }
-{
-    Fault {
-        refusal,
-        layer: Layer::Roll,
-        place,
-    }
-}
-
-// Whether the lent tables are those of n slots.
-fn fitting(n: usize, legs: usize, tallies: usize) -> Result<(), Fault>
-    requires few { n ≤ 128 }
-    ensures value { result_err result ≡ tables n legs tallies }
-{
-    if legs != 2 * n {
-        return Err(refuse(Refusal::TableLength, 0));
-    }
-    if tallies != 2 * n {
-        return Err(refuse(Refusal::TableLength, 1));
-    }
-    Ok(())
 }
 
 // Whether the machine means the text of this leg.
@@ -64,29 +43,24 @@ impl Roll {
         ensures law { (m : M) (o : O) → Law (M.Folding.leg m) (M.Judging.means m) (O.Folding.leg o) (O.Judging.means o) }
     {
         Roll {
-            slots: [Slot::Empty; 128],
-            size: 0,
+            slots: ArrayVec::new(),
         }
     }
 
     // Gives the roll n empty slots, whatever it held.
-    pub fn open<M: Judging>(
-        &mut self,
-        machine: &M,
-        n: usize,
-        legs: &mut [M::Leg],
-        tallies: &mut [Tally],
-    ) -> Result<(), Fault>
-        ensures opens { Opens (M.Folding.leg machine.now) (state self.old legs.old tallies.old) n result (state self.new legs.new tallies.new) }
+    pub fn open<M: Judging>(&mut self, lent: &mut LentMut<M>, n: usize) -> Result<(), Fault>
+        ensures opens { Opens (M.Folding.leg lent.old.machine.now) (state self.old lent.old.legs.now lent.old.tallies.now) n result (state self.new lent.new.legs.now lent.new.tallies.now) }
+        ensures machine { lent.new.machine ≡ lent.old.machine }
+        ensures tables { (lent.new.legs.ghost_name ≡ lent.old.legs.ghost_name) × (lent.new.tallies.ghost_name ≡ lent.old.tallies.ghost_name) }
     {
         if !allowed(n) {
-            return Err(refuse(Refusal::SlotCount, n));
+            return Err(Layer::Roll.fault(Refusal::SlotCount, n));
         }
-        fitting(n, legs.len(), tallies.len())?;
-        cells::clear(machine, legs);
-        cells::clear(&Tallying, tallies);
-        self.slots = [Slot::Empty; 128];
-        self.size = n;
+        lent.shared().fit(n)?;
+        let slots = empty_slots(n);
+        cells::clear(lent.machine, lent.legs);
+        cells::clear(&Tallying, lent.tallies);
+        self.slots = slots;
         Ok(())
     }
 
@@ -94,92 +68,84 @@ impl Roll {
     // the strip back.
     pub fn file<M: Judging>(
         &mut self,
-        machine: &M,
-        legs: &mut [M::Leg],
-        tallies: &mut [Tally],
+        lent: &mut LentMut<M>,
         slot: usize,
         strip: Strip<M::Leg>,
     ) -> Result<Tally, Returned<M::Leg>>
-        ensures files { Files (M.Folding.leg machine.now) (M.Judging.means machine.now) (state self.old legs.old tallies.old) slot strip result (state self.new legs.new tallies.new) }
+        ensures files { Files (M.Folding.leg lent.old.machine.now) (M.Judging.means lent.old.machine.now) (state self.old lent.old.legs.now lent.old.tallies.now) slot strip result (state self.new lent.new.legs.now lent.new.tallies.now) }
+        ensures machine { lent.new.machine ≡ lent.old.machine }
+        ensures tables { (lent.new.legs.ghost_name ≡ lent.old.legs.ghost_name) × (lent.new.tallies.ghost_name ≡ lent.old.tallies.ghost_name) }
     {
-        if let Err(fault) = self.slot_at(slot, legs.len(), tallies.len()) {
+        if let Err(fault) = self.slot_at(&lent.shared(), slot) {
             return Err(Returned { fault, strip });
         }
         let Strip { leg, tally, fed: _ } = strip;
-        let _ = cells::put(machine, legs, slot, leg);
-        let _ = cells::put(&Tallying, tallies, slot, tally);
-        self.slots[slot].hold();
+        // There is such a slot, so neither is refused.
+        let _ = cells::put(lent.machine, lent.legs, slot, leg);
+        let _ = cells::put(&Tallying, lent.tallies, slot, tally);
+        self.slots.as_mut_slice()[slot].hold();
         Ok(tally)
     }
 
     // Empties a held slot.
-    pub fn withdraw<M: Judging>(
-        &mut self,
-        machine: &M,
-        legs: &mut [M::Leg],
-        tallies: &mut [Tally],
-        slot: usize,
-    ) -> Result<(), Fault>
-        ensures does { Does (M.Folding.leg machine.now) (M.Judging.means machine.now) (state self.old legs.old tallies.old) (withdrawal slot) (heard (λ _. done) result) (state self.new legs.new tallies.new) }
+    pub fn withdraw<M: Judging>(&mut self, lent: &mut LentMut<M>, slot: usize) -> Result<(), Fault>
+        ensures does { Does (M.Folding.leg lent.old.machine.now) (M.Judging.means lent.old.machine.now) (state self.old lent.old.legs.now lent.old.tallies.now) (withdrawal slot) (heard (λ _. done) result) (state self.new lent.new.legs.now lent.new.tallies.now) }
+        ensures machine { lent.new.machine ≡ lent.old.machine }
+        ensures tables { (lent.new.legs.ghost_name ≡ lent.old.legs.ghost_name) × (lent.new.tallies.ghost_name ≡ lent.old.tallies.ghost_name) }
     {
-        self.slot_at(slot, legs.len(), tallies.len())?;
+        self.slot_at(&lent.shared(), slot)?;
         let mark = self.slots[slot];
         if !mark.is_held() {
-            return Err(refuse(Refusal::SlotEmpty, slot));
+            return Err(Layer::Roll.fault(Refusal::SlotEmpty, slot));
         }
-        let _ = cells::put(machine, legs, slot, machine.empty());
-        let _ = cells::put(&Tallying, tallies, slot, Tallying.empty());
-        self.slots[slot].clear();
+        let empty = lent.machine.empty();
+        let _ = cells::put(lent.machine, lent.legs, slot, empty);
+        let _ = cells::put(&Tallying, lent.tallies, slot, Tallying.empty());
+        self.slots.as_mut_slice()[slot].clear();
         Ok(())
     }
 
     // Whether the machine means the joined text.
-    pub fn verdict<M: Judging>(
-        &self,
-        machine: &M,
-        legs: &[M::Leg],
-        tallies: &[Tally],
-    ) -> Result<bool, Fault>
-        ensures does { Does (M.Folding.leg machine.now) (M.Judging.means machine.now) (state self.now legs.now tallies.now) verdict (heard judged result) (state self.now legs.now tallies.now) }
+    pub fn verdict<M: Judging>(&self, lent: &Lent<M>) -> Result<bool, Fault>
+        ensures does { Does (M.Folding.leg lent.now.machine.now) (M.Judging.means lent.now.machine.now) (state self.now lent.now.legs.now lent.now.tallies.now) verdict (heard judged result) (state self.now lent.now.legs.now lent.now.tallies.now) }
     {
-        fitting(self.size, legs.len(), tallies.len())?;
-        Ok(judge(machine, &cells::whole(machine, legs)))
+        lent.fit(self.slots.len())?;
+        Ok(judge(lent.machine, &cells::whole(lent.machine, lent.legs)))
     }
 
     // The tally of the joined text.
-    pub fn totals<M: Judging>(
-        &self,
-        machine: &M,
-        legs: &[M::Leg],
-        tallies: &[Tally],
-    ) -> Result<Tally, Fault>
-        ensures does { Does (M.Folding.leg machine.now) (M.Judging.means machine.now) (state self.now legs.now tallies.now) totals (heard tallied result) (state self.now legs.now tallies.now) }
+    pub fn totals<M: Judging>(&self, lent: &Lent<M>) -> Result<Tally, Fault>
+        ensures does { Does (M.Folding.leg lent.now.machine.now) (M.Judging.means lent.now.machine.now) (state self.now lent.now.legs.now lent.now.tallies.now) totals (heard tallied result) (state self.now lent.now.legs.now lent.now.tallies.now) }
     {
-        fitting(self.size, legs.len(), tallies.len())?;
-        Ok(cells::whole(&Tallying, tallies))
+        lent.fit(self.slots.len())?;
+        Ok(cells::whole(&Tallying, lent.tallies))
     }
 
     // The first slot at whose end the text so far is lost.
-    pub fn culprit<M: Judging>(
-        &self,
-        machine: &M,
-        legs: &[M::Leg],
-        tallies: &[Tally],
-    ) -> Result<Option<usize>, Fault>
-        ensures does { Does (M.Folding.leg machine.now) (M.Judging.means machine.now) (state self.now legs.now tallies.now) culprit (heard named result) (state self.now legs.now tallies.now) }
+    pub fn culprit<M: Judging>(&self, lent: &Lent<M>) -> Result<Option<usize>, Fault>
+        ensures does { Does (M.Folding.leg lent.now.machine.now) (M.Judging.means lent.now.machine.now) (state self.now lent.now.legs.now lent.now.tallies.now) culprit (heard named result) (state self.now lent.now.legs.now lent.now.tallies.now) }
     {
-        fitting(self.size, legs.len(), tallies.len())?;
-        Ok(cells::first_lost(machine, legs))
+        lent.fit(self.slots.len())?;
+        Ok(cells::first_lost(lent.machine, lent.legs))
     }
 
-    // Whether the lent tables are this roll's, and then whether there is such a slot.
-    fn slot_at(&self, slot: usize, legs: usize, tallies: usize) -> Result<(), Fault>
-        ensures value { result_err result ≡ room self.now.size slot legs tallies }
+    // Whether the lent cells are this roll's, and then whether there is such a slot.
+    fn slot_at<M: Judging>(&self, lent: &Lent<M>, slot: usize) -> Result<(), Fault>
+        ensures value { result_err result ≡ room (length self.now.slots.items) slot (length lent.now.legs.now) (length lent.now.tallies.now) }
     {
-        fitting(self.size, legs, tallies)?;
-        if slot >= self.size {
-            return Err(refuse(Refusal::NoSuchSlot, slot));
+        lent.fit(self.slots.len())?;
+        if slot >= self.slots.len() {
+            return Err(Layer::Roll.fault(Refusal::NoSuchSlot, slot));
         }
         Ok(())
     }
+}
+
+fn empty_slots(n: usize) -> ArrayVec<Slot, 128>
+    requires few { n ≤ 128 }
+    ensures value { result.items ≡ replicate n Empty }
+{
+    let mut slots = ArrayVec::new();
+    let _ = slots.try_extend_from_slice(&[Slot::Empty; 128][..n]);
+    slots
 }

@@ -1,5 +1,9 @@
 // Beginning and feeding strips.
-ghost use Rattle.roll.specs.Steps.{Begins, Feeds};
+ghost use Rattle.std.specs.Prelude.{◌≡◌, ◌<◌, length, MatchResult};
+ghost use Rattle.fault.specs.declared.Refusal.TheVariants.{StripTooLong};
+ghost use Rattle.roll.specs.Refusals.{fault as fault_at};
+ghost use Rattle.roll.specs.Sizes.{longest};
+ghost use Rattle.roll.specs.Steps.{Begins, Feeds, FedAtOnce};
 
 use crate::strip::Strip;
 use fault::{Fault, Layer, Refusal};
@@ -29,14 +33,19 @@ pub fn feed<M: Folding>(
     ensures feeds { Feeds (M.Folding.leg machine.now) strip.old bytes.now result strip.new }
 {
     if bytes.len() > LONGEST - strip.fed {
-        return Err(Fault {
-            refusal: Refusal::StripTooLong,
-            layer: Layer::Roll,
-            place: strip.fed,
-        });
+        return Err(Layer::Roll.fault(Refusal::StripTooLong, strip.fed));
     }
     strip.leg = machine.extend(&strip.leg, bytes);
     strip.tally = Tallying.extend(&strip.tally, bytes);
     strip.fed += bytes.len();
     Ok(strip.fed)
+}
+
+// An open strip of a text that is at hand whole.
+pub fn strip_of<M: Folding>(machine: &M, text: &[u8]) -> Result<Strip<M::Leg>, Fault>
+    ensures cases { MatchResult result (λ s. FedAtOnce (M.Folding.leg machine.now) text.now s) (λ f. (longest < length text.now) × (f ≡ fault_at StripTooLong 0)) }
+{
+    let mut strip = begin(machine);
+    feed(machine, &mut strip, text)?;
+    Ok(strip)
 }

@@ -3,6 +3,7 @@
 
 pub mod calls;
 pub mod feeding;
+pub mod lent;
 pub mod roll;
 pub mod slot;
 pub mod strip;

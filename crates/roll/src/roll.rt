@@ -3,13 +3,12 @@ ghost use Rattle.std.specs.Prelude.{◌≡◌, true, length};
 ghost use Rattle.roll.specs.Sizes.{sized};
 
 use crate::slot::Slot;
+use arrayvec::ArrayVec;
 
 // A text in strips, of which only the marks of the slots are kept here: what is kept of the texts
-// is lent with each call, 2N legs and 2N tallies where the roll has N slots (a roll as made has none).
+// is lent with each call (`Lent`). A roll as made has no slots.
 #[derive(Drop)]
 pub struct Roll {
-    pub(crate) slots: [Slot; 128],
-    pub(crate) size: usize,
-    ghost few: { sized size ≡ true },
-    ghost full: { length slots ≡ 128 },
+    pub(crate) slots: ArrayVec<Slot, 128>,
+    ghost few: { sized (length slots.items) ≡ true },
 }

@@ -4,9 +4,10 @@ ghost use Rattle.roll.specs.Refusals.{is_held};
 ghost use Rattle.roll.specs.declared.slot.Slot.TheVariants.{Held, Empty};
 
 // Whether a strip stands in a slot. The strip's leg and tally are in the cells.
-#[derive(Clone, Copy, PartialEq, Eq, Debug)]
+#[derive(Clone, Copy, PartialEq, Eq, Debug, Default)]
 pub enum Slot {
     Held,
+    #[default]
     Empty,
 }
 
@@ -14,10 +15,7 @@ impl Slot {
     pub(crate) fn is_held(self) -> bool
         ensures value { result ≡ is_held self }
     {
-        match self {
-            Slot::Held => true,
-            Slot::Empty => false,
-        }
+        matches!(self, Slot::Held)
     }
 
     pub(crate) fn hold(&mut self)

@@ -1,5 +1,5 @@
 // Open strips.
-ghost use Rattle.std.specs.Prelude.{◌≤◌};
+ghost use Rattle.std.specs.Prelude.{◌≡◌, ◌≤◌};
 
 use fault::Fault;
 use folding::tally::Tally;
@@ -19,4 +19,12 @@ pub struct Strip<L> {
 pub struct Returned<L> {
     pub fault: Fault,
     pub strip: Strip<L>,
+}
+
+impl<L: Drop> From<Returned<L>> for Fault {
+    ghost from_gives = { λ r f. f ≡ r.fault };
+
+    fn from(returned: Returned<L>) -> Fault {
+        returned.fault
+    }
 }

@@ -4,20 +4,17 @@ use fault::Fault;
 use folding::fold::Judging;
 use folding::tally::Tally;
 use roll::feeding::{begin, feed};
+use roll::lent::LentMut;
 use roll::roll::Roll;
 
 pub(crate) fn file<M: Judging>(
     roll: &mut Roll,
-    machine: &M,
-    legs: &mut [M::Leg],
-    tallies: &mut [Tally],
+    lent: &mut LentMut<M>,
     slot: usize,
     text: &[u8],
 ) -> Result<Tally, Fault> {
-    let mut strip = begin(machine);
-    feed(machine, &mut strip, text)?;
-    match roll.file(machine, legs, tallies, slot, strip) {
-        Ok(tally) => Ok(tally),
-        Err(back) => Err(back.fault),
-    }
+    let mut strip = begin(lent.machine);
+    feed(lent.machine, &mut strip, text)?;
+    let tally = roll.file(lent, slot, strip)?;
+    Ok(tally)
 }

@@ -1,11 +1,13 @@
-use Rattle.std.proofs.Common.{length}
+use Rattle.std.proofs.Common.{◌≡◌}
 use Rattle.roll.specs.Stands.{state}
 use Rattle.bundle.proofs.Filings.{Along}
 use Rattle.bundle.specs.Handed.{left}
 use Rattle.bundle.proofs.filing.file_all.Given as goal
 
 abbrev pub invariant-loop-strip : goal.invariant-loop-strip
-invariant-loop-strip g l = Along (g.M.Folding.leg l.machine) (state l.initial.roll l.initial.legs l.initial.tallies) (left l.initial.strips) (state l.roll l.legs l.tallies) (left l.strips)
-
-abbrev pub decreases-loop-strip : goal.decreases-loop-strip
-decreases-loop-strip g l = length (left l.strips)
+invariant-loop-strip g l =
+    let was = l.initial.lent in
+    Along (g.M.Folding.leg was.machine.now) (state l.initial.roll was.legs.now was.tallies.now) (left l.fn.strips) (state l.roll l.lent.legs.now l.lent.tallies.now) (left l.strip-iterator)
+    × (l.lent.machine ≡ was.machine)
+    × (l.lent.legs.ghost_name ≡ was.legs.ghost_name)
+    × (l.lent.tallies.ghost_name ≡ was.tallies.ghost_name)

@@ -1,12 +1,17 @@
-use Rattle.bundle.proofs.Filings.{one_filed, one_refused}
+use Rattle.std.proofs.Common.{[], ◌∷◌, Err, sym, ap, ◌∙◌, subst}
+use Rattle.std.proofs.lemmas.Result.{err_from_is_err_and}
+use Rattle.roll.specs.Stands.{state}
+use Rattle.bundle.specs.Filing.{Filed}
+use Rattle.bundle.specs.Handed.{piece}
+use Rattle.bundle.specs.Outcome.{filed}
+use Rattle.bundle.proofs.Filings.{one_refused}
 use Rattle.bundle.proofs.filing.file_one.Goals as goal
 
-pub returns-in-Ok : goal.returns-in-Ok
-returns-in-Ok g c = record {
-  filed = λ p wide stands. one_filed _ _ _ _ _ _ p (c.in_ok-feed.ensures.feeds.holds _ c.begin-open.ensures.begins) wide stands _ c.in-Ok.ensures.files;
-}
-
-pub returns-in-Err : goal.returns-in-Err
-returns-in-Err g c = record {
-  filed = λ p wide stands. one_refused _ _ _ _ _ _ p (c.in_ok-feed.ensures.feeds.holds _ c.begin-open.ensures.begins) wide stands _ c.in-Err.ensures.files;
-}
+pub returns-in_err-file-clause-filed : goal.returns-in_err-file-clause-filed
+returns-in_err-file-clause-filed g c p wide stands =
+    let leg = g.M.Folding.leg c.args.lent.now.machine.now in
+    let is = state c.file.new.self c.file.new.lent.legs.now c.file.new.lent.tallies.now in
+    let fault = err_from_is_err_and c.from_residual-in_err-file.result c.from_residual-in_err-file.ensures.1 in
+    let fed = c.in_ok-open.ensures.cases in
+    subst (λ r. Filed leg (filed p (piece c.args.strip ∷ [])) r is) (sym (fault.1 ∙ ap Err fault.2))
+    (one_refused leg _ _ is _ _ p (fed.2.holds [] fed.1) wide stands _ c.in_err-file.ensures.files)

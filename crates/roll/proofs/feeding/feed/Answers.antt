@@ -2,15 +2,6 @@ use Rattle.std.proofs.Common.{refl, arith, length-append}
 use Rattle.folding.proofs.Texts.{bytes_slice, bytes_append}
 use Rattle.roll.proofs.feeding.feed.Goals as goal
 
-pub returns-then-bytes-strip : goal.returns-then-bytes-strip
-returns-then-bytes-strip g c = record {
-  feeds = record {
-    text = bytes_slice _ c.type_inv.bytes;
-    cases = (let over = c.if-bytes-strip.true in let short = c.args.strip.now.short in omega arith, refl, refl);
-    holds = λ w h. h;
-  };
-}
-
 pub returns : goal.returns
 returns g c =
     let bytes = bytes_slice _ c.type_inv.bytes in

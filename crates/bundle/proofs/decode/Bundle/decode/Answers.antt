@@ -1,4 +1,4 @@
-use Rattle.std.proofs.Common.{refl, ap}
+use Rattle.std.proofs.Common.{refl, ap, ◌∙◌}
 use Rattle.fault.specs.declared.Layer.TheVariants.{Bundle}
 use Rattle.fault.specs.declared.Refusal.TheVariants.{BundleSize}
 use Rattle.std.proofs.lemmas.Bool.{false≢true}
@@ -17,7 +17,7 @@ returns-then-right_size c =
 
 pub returns-else-right_size : goal.returns-else-right_size
 returns-else-right_size c = record {
-  cases = (λ right. false≢true (c.if-right_size.ensures.1 right), ap (λ k. record { refusal = BundleSize; layer = Bundle; place = k }) c.min.ensures);
+  cases = (λ right. false≢true (c.if-right_size.ensures.1 right), c.fault.ensures.value ∙ ap (λ k. record { refusal = BundleSize; layer = Bundle; place = k }) c.min.ensures);
   bytes = tt;
   one_reading = one_reading;
   granted = granted;

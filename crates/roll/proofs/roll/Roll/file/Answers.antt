@@ -1,28 +1,27 @@
-use Rattle.std.proofs.Common.{◌<◌, length, set, Some, sym, refl, ap, subst}
+use Rattle.std.proofs.Common.{◌≡◌, ◌<◌, length, Some, None, sym, refl, ap, ◌∙◌, subst}
 use Rattle.roll.specs.Calls.{tallied}
 use Rattle.roll.specs.Plain.{texts}
-use Rattle.roll.proofs.Granting.{room_at, room_none, not_refused}
-use Rattle.roll.proofs.Standing.{length_texts, stands_set}
+use Rattle.roll.specs.Refusals.{room}
+use Rattle.roll.specs.Stands.{slots}
+use Rattle.roll.proofs.Granting.{room_none}
+use Rattle.roll.proofs.Standing.{length_texts, marked, stands_set, grants}
 use Rattle.roll.proofs.roll.Roll.file.Goals as goal
 
-pub returns : goal.returns
-returns g c =
-    let self = c.args.self.now in
+pub returns-clause-files : goal.returns-clause-files
+returns-clause-files g c =
     let slot = c.args.slot in
-    let in' : slot < self.size = room_none self.size slot _ _ (sym c.in_default.ensures.value) in
+    let self = c.args.self.now in
+    let granted : room (length (slots self)) slot (length c.args.lent.now.legs.now) (length c.args.lent.now.tallies.now) ≡ None =
+    sym (c.in_default.ensures.value ∙ (λ i. room (length (slots self)) slot (length (c.shared.ensures.legs i)) (length (c.shared.ensures.tallies i)))) in
+    let in' : slot < length (slots self) = room_none _ slot _ _ granted in
     record {
-      files = record {
-        refuses = record {
-          which = room_at self slot _ _ c.in_default.ensures.value;
-          same = λ f e. absurd (not_refused _ f refl e);
-        };
-        back = tt;
-        keeps = λ w h p stands granted.
-            let lt : slot < length (texts p) = subst (λ n. slot < n) (sym (length_texts stands)) in' in (
-              ap tallied h.tallies,
-              stands_set _ _ _ p stands slot (Some w) h.bytes (ap (set self.slots slot) c.hold.ensures.after) refl
-                  (c.put.ensures.cells (texts p) w stands.bytes h.bytes lt stands.legs h.legs)
-                  (c.put-2.ensures.cells (texts p) w stands.bytes h.bytes lt stands.tallies h.tallies),
-            );
-      };
+      refuses = grants _ refl granted;
+      back = tt;
+      keeps = λ w h p stands free.
+          let lt : slot < length (texts p) = subst (λ n. slot < n) (sym (length_texts stands)) in' in (
+            ap tallied h.tallies,
+            stands_set _ _ _ p stands slot (Some w) h.bytes (marked _ _ slot _ _ c.as_mut_slice.ensures.value c.hold.ensures.after)
+                (c.put.ensures.cells (texts p) w stands.bytes h.bytes lt stands.legs h.legs)
+                (c.put-2.ensures.cells (texts p) w stands.bytes h.bytes lt stands.tallies h.tallies),
+          );
     }

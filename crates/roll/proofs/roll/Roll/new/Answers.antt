@@ -1,9 +1,5 @@
-use Rattle.std.proofs.Common.{refl}
 use Rattle.roll.proofs.Lawful.{lawful}
 use Rattle.roll.proofs.roll.Roll.new.Goals as goal
 
-pub returns : goal.returns
-returns g c = record {
-  made = (refl, refl);
-  law = λ m o. lawful _ _ _ _ (g.met.M.Judging.inhabited m);
-}
+pub returns-clause-law : goal.returns-clause-law
+returns-clause-law g c m o = lawful _ _ _ _ (g.met.M.Judging.inhabited m)

@@ -1,19 +1,15 @@
-use Rattle.std.proofs.Common.{sym, refl}
-use Rattle.roll.proofs.Granting.{tables_none, opening_none, not_refused}
-use Rattle.roll.proofs.Sizing.{power_of}
-use Rattle.roll.proofs.Standing.{stands_empty}
+use Rattle.std.proofs.Common.{◌≡◌, length, None, sym, refl, ◌∙◌}
+use Rattle.roll.specs.Refusals.{tables}
+use Rattle.roll.proofs.Granting.{tables_none, opening_none}
+use Rattle.roll.proofs.Standing.{stands_empty, grants}
 use Rattle.roll.proofs.roll.Roll.open.Goals as goal
 
-pub returns : goal.returns
-returns g c =
-    let fits = tables_none c.args.n _ _ (sym c.in_ok-fitting.ensures.value) in
-    let size = sym c.if-not-allowed.ensures.value in
+pub returns-clause-opens : goal.returns-clause-opens
+returns-clause-opens g c =
+    let granted : None ≡ tables c.args.n (length c.args.lent.now.legs.now) (length c.args.lent.now.tallies.now) =
+    c.in_ok-fit.ensures.value ∙ (λ i. tables c.args.n (length (c.shared.ensures.legs i)) (length (c.shared.ensures.tallies i))) in
+    let fits = tables_none c.args.n _ _ (sym granted) in
     record {
-      opens = record {
-        refuses = record {
-          which = opening_none c.args.n _ _ size c.in_ok-fitting.ensures.value;
-          same = λ f e. absurd (not_refused _ f refl e);
-        };
-        keeps = λ granted. stands_empty _ _ c.args.n refl refl (power_of c.args.n size).few (c.clear.ensures.cells.1 c.args.n fits.0) (c.clear-2.ensures.cells.1 c.args.n fits.1);
-      };
+      refuses = grants _ refl (opening_none c.args.n _ _ (sym c.if-not-allowed.ensures.value) granted);
+      keeps = λ granted. stands_empty _ _ c.args.n c.empty_slots-slots.ensures.value (c.clear.ensures.cells.1 c.args.n fits.0) (c.clear-2.ensures.cells.1 c.args.n fits.1);
     }

@@ -1,39 +1,25 @@
-use Rattle.std.proofs.Common.{◌<◌, length, set, Some, None, sym, refl, ap, ◌∙◌, subst}
+use Rattle.std.proofs.Common.{◌≡◌, ◌<◌, length, None, sym, refl, ◌∙◌, subst}
 use Rattle.roll.specs.Plain.{texts}
-use Rattle.roll.proofs.Granting.{room_none, withdrawal_at, not_refused, refused_not_none}
-use Rattle.roll.proofs.Standing.{length_texts, stands_set}
+use Rattle.roll.specs.Refusals.{room}
+use Rattle.roll.specs.Stands.{slots}
+use Rattle.roll.proofs.Granting.{room_none, withdrawal_at}
+use Rattle.roll.proofs.Standing.{length_texts, marked, stands_set, grants}
 use Rattle.roll.proofs.roll.Roll.withdraw.Goals as goal
 
-pub returns-then-not-is_held : goal.returns-then-not-is_held
-returns-then-not-is_held g c =
-    let self = c.args.self.now in
-    let which =
-    withdrawal_at self c.args.slot (length c.args.legs.now) (length c.args.tallies.now) _ c.in_ok-slot_at.ensures.value c.if-not-is_held.ensures.value
-    ∙ ap Some (sym c.refuse.ensures.value) in
-    record {
-      does = record {
-        refuses = record { which = which; same = λ f e. refl };
-        keeps = λ p stands granted. absurd (refused_not_none _ _ which granted);
-      };
-    }
-
-pub returns : goal.returns
-returns g c =
+pub returns-clause-does : goal.returns-clause-does
+returns-clause-does g c =
     let self = c.args.self.now in
     let slot = c.args.slot in
-    let in' : slot < self.size = room_none self.size slot _ _ (sym c.in_ok-slot_at.ensures.value) in
+    let granted : None ≡ room (length (slots self)) slot (length c.args.lent.now.legs.now) (length c.args.lent.now.tallies.now) =
+    c.in_ok-slot_at.ensures.value ∙ (λ i. room (length (slots self)) slot (length (c.shared.ensures.legs i)) (length (c.shared.ensures.tallies i))) in
+    let in' : slot < length (slots self) = room_none _ slot _ _ (sym granted) in
     record {
-      does = record {
-        refuses = record {
-          which = withdrawal_at self slot (length c.args.legs.now) (length c.args.tallies.now) _ c.in_ok-slot_at.ensures.value c.if-not-is_held.ensures.value;
-          same = λ f e. absurd (not_refused _ f refl e);
-        };
-        keeps = λ p stands granted.
-            let lt : slot < length (texts p) = subst (λ n. slot < n) (sym (length_texts stands)) in' in (
-              refl,
-              stands_set _ _ _ p stands slot None tt (ap (set self.slots slot) c.clear.ensures.after) refl
-                  (c.put.ensures.cells (texts p) _ stands.bytes tt lt stands.legs c.empty.ensures.value)
-                  (c.put-2.ensures.cells (texts p) _ stands.bytes tt lt stands.tallies c.empty-2.ensures.value),
-            );
-      };
+      refuses = grants _ refl (withdrawal_at self slot _ _ _ _ granted c.deref.ensures.0 c.if-not-is_held.ensures.value);
+      keeps = λ p stands free.
+          let lt : slot < length (texts p) = subst (λ n. slot < n) (sym (length_texts stands)) in' in (
+            refl,
+            stands_set _ _ _ p stands slot None tt (marked _ _ slot _ _ c.as_mut_slice.ensures.value c.clear.ensures.after)
+                (c.put.ensures.cells (texts p) _ stands.bytes tt lt stands.legs c.empty-empty.ensures.value)
+                (c.put-2.ensures.cells (texts p) _ stands.bytes tt lt stands.tallies c.empty.ensures.value),
+          );
     }

@@ -1,5 +1,5 @@
 use Rattle.std.proofs.Common.{◌+◌, ◌*◌}
-use Rattle.machine_trials.proofs.spans.+alternatives_atom_branch.Given as goal
+use Rattle.machine_trials.proofs.spans.Matcher.+alternatives_atom_branch.Given as goal
 
 abbrev pub decreases-alternatives : goal.decreases-alternatives
 decreases-alternatives l = 3 * l.depth + 2
