@@ -30,12 +30,6 @@ module _ {L : Type 0} (leg : List ℕ → L) (M : List ℕ → Type 0) where
       sym (stands_refusal stands c ∙ (λ i. refusal (marks p) c (legs i) (tallies i)))
 
   module _ (was is : State L) (s : Piece) (strip : Strip L) (p : Plain) (holds : Holds leg strip s.text) (wide : length p ≡ 128) (stands : Stands leg was p) where
-    pub one_filed : (t : Tally) → Files leg M was s.slot strip (Ok t) is → Filed leg (filed p (s ∷ [])) (Ok tt) is
-    one_filed t files =
-        let free = at_128 was p wide stands (filing s.slot s.text) ∙ files.refuses.which in
-        subst (λ o. Filed leg (unless o (Ok (set p s.slot (Some s.text)))) (Ok tt) is) (sym free)
-        (refl, (files.keeps s.text holds p stands files.refuses.which).1)
-
     pub one_refused : (e : Returned L) → Files leg M was s.slot strip (Err e) is → Filed leg (filed p (s ∷ [])) (Err e.fault) is
     one_refused e files =
         let which = at_128 was p wide stands (filing s.slot s.text) ∙ files.refuses.which in

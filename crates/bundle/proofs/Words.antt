@@ -1,8 +1,7 @@
 -- 16-bit numbers, and sums of them, in parts of a list. Assumes nothing.
-use Rattle.std.proofs.Common.{◌≡◌, ℕ, zero, suc, ◌+◌, ◌*◌, ◌/◌, ◌%◌, ◌<◌, ◌≤◌, min, List, [], ◌∷◌, ◌++◌, length, get_or, take, drop, sym, refl, ap, ◌∙◌, ⊎_elim, add-zero, add_assoc, arith}
+use Rattle.std.proofs.Common.{◌≡◌, ℕ, zero, suc, ◌+◌, ◌*◌, ◌/◌, ◌%◌, ◌<◌, ◌≤◌, List, [], ◌∷◌, ◌++◌, length, get_or, take, drop, sym, refl, ap, ◌∙◌, add-zero, add_assoc, arith}
 use native.Mathlib.Nat.{div-add-mod}
-use Rattle.std.proofs.lemmas.List.{get_or-take, get_or-drop, drop_at, take_all, drop_all}
-use Rattle.std.proofs.lemmas.Bool.{cases_lt}
+use Rattle.std.proofs.lemmas.List.{get_or-take, get_or-drop, drop_at}
 use Rattle.bundle.specs.Layout.{size16}
 use Rattle.bundle.specs.Sizes.{word16, sum16}
 
@@ -47,18 +46,3 @@ sum_past xs bs i n e =
 -- one number less is left to add; j and m are as a loop writes them
 pub sum_next : (bs : List ℕ) (i j k m : ℕ) → k ≡ suc m → i + 2 ≡ j → sum16 bs i k ≡ word16 bs i + sum16 bs j m
 sum_next bs i j k m e f = ap (sum16 bs i) e ∙ ap (λ x. word16 bs i + sum16 bs x m) f
-
--- a part that is asked for past the end stops there
-pub take_min : (n : ℕ) (bs : List ℕ) → take (min n (length bs)) bs ≡ take n bs
-take_min n bs =
-    ⊎_elim
-    (λ less. ap (λ k. take k bs) (omega arith))
-    (λ past. ap (λ k. take k bs) (omega arith) ∙ take_all (length bs) bs (omega arith) ∙ sym (take_all n bs past))
-    (cases_lt n (length bs))
-
-pub drop_min : (n : ℕ) (bs : List ℕ) → drop (min n (length bs)) bs ≡ drop n bs
-drop_min n bs =
-    ⊎_elim
-    (λ less. ap (λ k. drop k bs) (omega arith))
-    (λ past. ap (λ k. drop k bs) (omega arith) ∙ drop_all (length bs) bs (omega arith) ∙ sym (drop_all n bs past))
-    (cases_lt n (length bs))

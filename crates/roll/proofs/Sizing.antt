@@ -20,6 +20,3 @@ power_of n e =
 
 pub sized_cases : (n : ℕ) → sized n ≡ true → (n ≡ 0) ⊎ Power n
 sized_cases n e = ⊎_elim (λ z. inl (eqb-true n 0 z)) (λ a. inr (power_of n a)) (or_cases (eqb n 0) (allowed n) e)
-
-pub sized_few : (n : ℕ) → sized n ≡ true → n ≤ 128
-sized_few n e = ⊎_elim (λ z. omega arith) (λ p. p.few) (sized_cases n e)
