@@ -3,7 +3,6 @@
 
 pub mod assembly;
 mod class;
-mod copy;
 mod count;
 mod draft;
 pub mod examples;

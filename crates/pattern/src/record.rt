@@ -1,60 +1,66 @@
 // The pattern record, which is lent to be read into. It always holds a pattern that was granted,
 // at first the empty one.
-ghost use Rattle.std.specs.Prelude.{◌≡◌, ◌≤◌, [], take, is_ok, Decides, MatchResult};
+ghost use Rattle.std.specs.Prelude.{◌≡◌, [], is_ok, Decides, MatchResult};
 ghost use Rattle.pattern.specs.Expressions.{Regex};
 ghost use Rattle.pattern.specs.Grammar.{Written, deepest, OneReading};
 ghost use Rattle.pattern.specs.Reading.{Holds, Readable, Granted, Refused};
 
 use crate::assembly::Assembly;
-use crate::copy::copied;
 use crate::verdict::{assemble, judge};
+use arrayvec::ArrayVec;
 use fault::Fault;
+use std::marker::Model;
 
 #[derive(Drop)]
 pub struct Pattern {
-    bytes: [u8; 256],
-    len: usize,
-    ghost fits: { len ≤ 256 },
-    ghost readable: { Holds (take len bytes) },
+    bytes: ArrayVec<u8, 256>,
+}
+
+impl Model for Pattern {
+    ghost use Rattle.std.specs.Prelude.{ℕ, List};
+    ghost use Rattle.pattern.specs.Reading.{Holds};
+
+    ghost Value = { List ℕ };
+
+    ghost view = { λ p. p.bytes.items };
+
+    ghost invariant = { λ p. Holds p.bytes.items };
 }
 
 impl Pattern {
     pub fn new() -> Pattern
-        ensures held { take result.len result.bytes ≡ [] }
+        ensures held { result ≡ [] }
     {
         Pattern {
-            bytes: [0; 256],
-            len: 0,
+            bytes: ArrayVec::new(),
         }
     }
 
     pub fn bytes(&self) -> &[u8]
-        ensures value { result.now ≡ take self.now.len self.now.bytes }
+        ensures value { result.now ≡ self.now }
+        ensures granted { Holds self.now }
     {
-        &self.bytes[0..self.len]
+        self.bytes.as_slice()
     }
 
     // What the pattern is put together as.
     pub fn assemble<T: Assembly>(&self) -> T
-        ensures value { (e : Regex) → Written deepest (take self.now.len self.now.bytes) e → T.Assembly.stands result e }
+        ensures value { (e : Regex) → Written deepest self.now e → T.Assembly.stands result e }
+        ensures granted { Holds self.now }
     {
-        match assemble(self.bytes()) {
-            Ok(part) => part,
-            Err(_) => unreachable(),
-        }
+        assemble(self.bytes()).unwrap()
     }
 
     // The number of places.
     pub fn read(&mut self, bytes: &[u8]) -> Result<u8, Fault>
-        ensures cases { MatchResult result (λ n. Granted bytes.now n × (take self.new.len self.new.bytes ≡ bytes.now)) (λ f. Refused bytes.now f × (take self.new.len self.new.bytes ≡ [])) }
+        ensures cases { MatchResult result (λ n. Granted bytes.now n × (self.new ≡ bytes.now)) (λ f. Refused bytes.now f × (self.new ≡ [])) }
         ensures one_reading { OneReading }
         ensures exactly { Decides (is_ok result) (Readable bytes.now) }
     {
         *self = Pattern::new();
         let places = judge(bytes)?;
         *self = Pattern {
-            bytes: copied(bytes),
-            len: bytes.len(),
+            bytes: ArrayVec::try_from(bytes).unwrap(),
         };
         Ok(places)
     }

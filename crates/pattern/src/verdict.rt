@@ -5,8 +5,8 @@ ghost use Rattle.pattern.specs.Reading.{Granted, Refused, Assembled, Unwritten};
 use crate::assembly::Assembly;
 use crate::count::Count;
 use crate::reader::alternatives;
-use crate::refusal::{badly_written, refuse};
-use fault::{Fault, Refusal};
+use crate::refusal::badly_written;
+use fault::{Fault, Layer, Refusal};
 
 const LONGEST: usize = 256;
 
@@ -19,7 +19,7 @@ pub(crate) fn assemble<T: Assembly>(bytes: &[u8]) -> Result<T, Fault>
     ensures cases { MatchResult result (λ a. Assembled T.Assembly.stands bytes.now a) (λ f. Unwritten bytes.now f) }
 {
     if bytes.len() > LONGEST {
-        return Err(refuse(Refusal::PatternTooLong, bytes.len()));
+        return Err(Layer::Pattern.fault(Refusal::PatternTooLong, bytes.len()));
     }
     let (end, part) = alternatives(bytes, 0, DEEPEST)?;
     if end < bytes.len() {
@@ -34,7 +34,7 @@ pub(crate) fn judge(bytes: &[u8]) -> Result<u8, Fault>
 {
     let count = assemble::<Count>(bytes)?;
     if count.places > MOST_PLACES {
-        return Err(refuse(Refusal::TooManyPlaces, 0));
+        return Err(Layer::Pattern.fault(Refusal::TooManyPlaces, 0));
     }
     Ok(count.places)
 }

@@ -1,5 +1,5 @@
-use Rattle.pattern.proofs.Outcomes.{held}
+use Rattle.pattern.proofs.Outcomes.{holds_ok}
 use Rattle.pattern.proofs.record.Pattern.assemble.Goals as goal
 
-pub unreachable-requires : goal.unreachable-requires
-unreachable-requires g c = held _ _ _ c.args.self.now.readable c.bytes.ensures.value c.in-Err.ensures.cases
+pub unwrap-requires : goal.unwrap-requires
+unwrap-requires g c = holds_ok _ _ _ _ c.assemble.ensures.cases c.bytes.ensures.granted c.bytes.ensures.value
