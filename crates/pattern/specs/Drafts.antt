@@ -3,18 +3,19 @@
 --   Keeps S c m fr   c stands for an open pattern, and for the atom that can still be repeated, where S says what a part stands for
 --   settled m fr     the open pattern once that atom has joined its branch
 --   .. Kept          what an atom, a bar, a repeat and the end make of what was kept
-use Rattle.std.specs.Prelude.{◌≡◌, true, false}
+use Rattle.std.specs.Prelude.{IsNone}
+use Rattle.std.specs.Option.{IsSomeAnd}
 use Rattle.pattern.specs.declared.draft.Draft.{Draft}
 use Rattle.pattern.specs.Expressions.{Regex, empty}
 use Rattle.pattern.specs.Automaton.{first, later, Mode, ready, after, escape, in_class, in_count, Frame, frame, push, closed}
 
 abbrev pub Opens : {T : Type 0} → (T → Regex → Type 0) → Draft T → Frame → Type 0
-Opens S c (frame first e) = (c.later ≡ false) × S c.branch e
-Opens S c (frame (later a) e) = (c.later ≡ true) × S c.earlier a × S c.branch e
+Opens S c (frame first e) = IsNone c.earlier × S c.branch e
+Opens S c (frame (later a) e) = IsSomeAnd c.earlier (λ x. S x a) × S c.branch e
 
 abbrev pub Keeps : {T : Type 0} → (T → Regex → Type 0) → Draft T → Mode → Frame → Type 0
-Keeps S c ready fr = Opens S c fr × (c.repeatable ≡ false)
-Keeps S c (after f) fr = Opens S c fr × S c.last f × (c.repeatable ≡ true)
+Keeps S c ready fr = Opens S c fr × IsNone c.last
+Keeps S c (after f) fr = Opens S c fr × IsSomeAnd c.last (λ x. S x f)
 Keeps S c escape fr = ⊥
 Keeps S c (in_class rs s) fr = ⊥
 Keeps S c (in_count f s) fr = ⊥
@@ -40,6 +41,10 @@ AtomKept K K' e = (m : Mode) (fr : Frame) → K m fr → K' (after e) (settled m
 
 abbrev pub BarKept : (Mode → Frame → Type 0) → (Mode → Frame → Type 0) → Type 0
 BarKept K K' = (m : Mode) (fr : Frame) → K m fr → K' ready (frame (later (closed (settled m fr))) empty)
+
+-- what R makes of a part stands for g of what the part stands for
+abbrev pub Repeats : {T : Type 0} → (T → Regex → Type 0) → (T → T → Type 0) → (Regex → Regex) → Type 0
+Repeats {T} S R g = (x y : T) (f : Regex) → R x y → S x f → S y (g f)
 
 abbrev pub RepeatKept : (Mode → Frame → Type 0) → (Mode → Frame → Type 0) → (Regex → Regex) → Type 0
 RepeatKept K K' g = (f : Regex) (fr : Frame) → K (after f) fr → K' ready (push (g f) fr)

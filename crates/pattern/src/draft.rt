@@ -1,7 +1,9 @@
 // The reading so far of one run of alternatives.
+ghost use Rattle.std.specs.Prelude.{IsSome};
+ghost use Rattle.std.specs.Fn.{FnOnceReturnsAt};
 ghost use Rattle.pattern.specs.Expressions.{Regex};
 ghost use Rattle.pattern.specs.Automaton.{Mode, Frame, ready, opened};
-ghost use Rattle.pattern.specs.Drafts.{Keeps, WholeKept, ClosedKept, AtomKept, BarKept, RepeatKept};
+ghost use Rattle.pattern.specs.Drafts.{Keeps, WholeKept, ClosedKept, AtomKept, BarKept, RepeatKept, Repeats};
 
 use crate::assembly::Assembly;
 
@@ -9,24 +11,19 @@ use crate::assembly::Assembly;
 // can still be repeated.
 #[derive(Clone, Copy)]
 pub struct Draft<T> {
-    pub(crate) earlier: T,
-    pub(crate) later: bool,
+    pub(crate) earlier: Option<T>,
     pub(crate) branch: T,
-    pub(crate) last: T,
-    pub(crate) repeatable: bool,
+    pub(crate) last: Option<T>,
 }
 
 impl<T: Assembly> Draft<T> {
     pub(crate) fn new() -> Draft<T>
         ensures value { Keeps T.Assembly.stands result ready opened }
     {
-        let nothing = T::nothing();
         Draft {
-            earlier: nothing,
-            later: false,
-            branch: nothing,
-            last: nothing,
-            repeatable: false,
+            earlier: None,
+            branch: T::nothing(),
+            last: None,
         }
     }
 
@@ -34,10 +31,9 @@ impl<T: Assembly> Draft<T> {
     fn whole(&self) -> T
         ensures value { WholeKept T.Assembly.stands self.now result }
     {
-        if self.repeatable {
-            self.branch.then(&self.last)
-        } else {
-            self.branch
+        match &self.last {
+            Some(atom) => self.branch.then(atom),
+            None => self.branch,
         }
     }
 
@@ -45,48 +41,43 @@ impl<T: Assembly> Draft<T> {
         ensures value { ClosedKept (Keeps T.Assembly.stands self.now) (T.Assembly.stands result) }
     {
         let branch = self.whole();
-        if self.later {
-            self.earlier.either(&branch)
-        } else {
-            branch
+        match &self.earlier {
+            Some(earlier) => earlier.either(&branch),
+            None => branch,
         }
     }
 
-    pub(crate) fn atom(&self, part: &T) -> Draft<T>
-        ensures value { (e : Regex) → T.Assembly.stands part.now e → AtomKept (Keeps T.Assembly.stands self.now) (Keeps T.Assembly.stands result) e }
+    pub(crate) fn atom(&self, part: T) -> Draft<T>
+        ensures value { (e : Regex) → T.Assembly.stands part e → AtomKept (Keeps T.Assembly.stands self.now) (Keeps T.Assembly.stands result) e }
     {
         Draft {
             earlier: self.earlier,
-            later: self.later,
             branch: self.whole(),
-            last: *part,
-            repeatable: true,
+            last: Some(part),
         }
     }
 
     pub(crate) fn bar(&self) -> Draft<T>
         ensures value { BarKept (Keeps T.Assembly.stands self.now) (Keeps T.Assembly.stands result) }
     {
-        let nothing = T::nothing();
         Draft {
-            earlier: self.closed(),
-            later: true,
-            branch: nothing,
-            last: nothing,
-            repeatable: false,
+            earlier: Some(self.closed()),
+            branch: T::nothing(),
+            last: None,
         }
     }
 
-    // `part` is what a repeat made of the atom in hand.
-    pub(crate) fn repeated(&self, part: &T) -> Draft<T>
-        ensures value { (g : Regex → Regex) → ((f : Regex) → T.Assembly.stands self.now.last f → T.Assembly.stands part.now (g f)) → RepeatKept (Keeps T.Assembly.stands self.now) (Keeps T.Assembly.stands result) g }
+    // What `repeat` makes of the atom in hand joins the branch.
+    pub(crate) fn repeated<F: FnOnce(&T) -> T>(&self, repeat: F) -> Draft<T>
+        requires atom { IsSome self.now.last }
+        requires callable { F.IsAlwaysCallable repeat }
+        ensures value { (g : Regex → Regex) → Repeats T.Assembly.stands (FnOnceReturnsAt F.FnOnce repeat) g → RepeatKept (Keeps T.Assembly.stands self.now) (Keeps T.Assembly.stands result) g }
     {
+        let atom = self.last.unwrap();
         Draft {
             earlier: self.earlier,
-            later: self.later,
-            branch: self.branch.then(part),
-            last: *part,
-            repeatable: false,
+            branch: self.branch.then(&repeat(&atom)),
+            last: None,
         }
     }
 }

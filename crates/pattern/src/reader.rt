@@ -36,29 +36,29 @@ fn step<T: Assembly>(
     requires within { at ≤ length p.now }
     ensures cases { MatchResult result (λ o. MatchOption o (Halts p.now at) (λ x. Steps p.now at depth (Keeps T.Assembly.stands draft.now) x.0 (Keeps T.Assembly.stands x.1))) (λ f. StepStops p.now at depth (Keeps T.Assembly.stands draft.now) f) }
 {
-    let sign = sign_at(p, at, draft.repeatable)?;
+    let sign = sign_at(p, at, draft.last.is_some())?;
     let end = at + sign.len();
     match sign {
         Sign::End => Ok(None),
         Sign::Close(_) => Ok(None),
         Sign::Open(_) => {
             let (end, part) = group(p, at, depth)?;
-            Ok(Some((end, draft.atom(&part))))
+            Ok(Some((end, draft.atom(part))))
         }
         Sign::Bar(_) => Ok(Some((end, draft.bar()))),
-        Sign::Plain(t) => Ok(Some((end, draft.atom(&T::byte(t[0]))))),
-        Sign::Escape(t) => Ok(Some((end, draft.atom(&T::byte(t[1]))))),
-        Sign::Any(_) => Ok(Some((end, draft.atom(&T::any())))),
+        Sign::Plain(t) => Ok(Some((end, draft.atom(T::byte(t[0]))))),
+        Sign::Escape(t) => Ok(Some((end, draft.atom(T::byte(t[1]))))),
+        Sign::Any(_) => Ok(Some((end, draft.atom(T::any())))),
         Sign::Class(_) => {
             let (close, letters) = class::gather(p, at + 1)?;
-            Ok(Some((close + 1, draft.atom(&T::class(&letters)))))
+            Ok(Some((close + 1, draft.atom(T::class(&letters)))))
         }
-        Sign::Star(_) => Ok(Some((end, draft.repeated(&draft.last.star())))),
-        Sign::Plus(_) => Ok(Some((end, draft.repeated(&draft.last.plus())))),
-        Sign::Question(_) => Ok(Some((end, draft.repeated(&draft.last.optional())))),
+        Sign::Star(_) => Ok(Some((end, draft.repeated(|atom| atom.star())))),
+        Sign::Plus(_) => Ok(Some((end, draft.repeated(|atom| atom.plus())))),
+        Sign::Question(_) => Ok(Some((end, draft.repeated(|atom| atom.optional())))),
         Sign::Counted(_) => {
             let ((least, most), end) = repeat::counts(p, at + 1)?;
-            Ok(Some((end, draft.repeated(&draft.last.counted(least, most)))))
+            Ok(Some((end, draft.repeated(|atom| atom.counted(least, most)))))
         }
     }
 }
