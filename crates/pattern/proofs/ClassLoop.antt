@@ -1,12 +1,12 @@
 -- What the class reader has seen after each byte, and the three ways out of its loop. Assumes nothing.
-use Rattle.std.proofs.Common.{◌≡◌, ℕ, ◌+◌, ◌-◌, ◌<◌, ◌≤◌, List, [], ◌∷◌, ◌++◌, length, get_or, take, drop, sym, refl, ap, ◌∙◌, subst, ⊎_elim, append_assoc, arith, length-drop}
+use Rattle.std.proofs.Common.{◌≡◌, ℕ, ◌+◌, ◌-◌, ◌<◌, ◌≤◌, None, Some, List, [], ◌∷◌, ◌++◌, length, get_or, take, drop, sym, refl, ap, ◌∙◌, subst, ⊎_elim, append_assoc, arith, length-drop}
 use Rattle.std.proofs.lemmas.List.{take_more, get_or-drop}
 use Rattle.std.proofs.lemmas.Bool.{cases_lt}
 use Rattle.fault.specs.declared.Fault.{Fault}
 use Rattle.fault.specs.declared.Refusal.TheVariants.{BadlyWritten}
 use Rattle.pattern.specs.declared.class.Progress.{Progress}
 use Rattle.pattern.specs.declared.class.Progress.TheVariants.{Empty}
-use Rattle.pattern.specs.declared.class.Taken.TheVariants.{Inside, Ended, Refused}
+use Rattle.pattern.specs.declared.class.Taken.TheVariants.{Inside, Ended}
 use Rattle.pattern.specs.Expressions.{Range, one}
 use Rattle.pattern.specs.Grammar.{Members, none}
 use Rattle.pattern.specs.Characters.{class_kind}
@@ -71,25 +71,28 @@ class_none p at i f none_yet stop is n rs members some inside' bracket =
     let few = unread _ (drop (at + n + 1) p) _ over in
     none_yet n rs (omega (arith, length-drop (at + n + 1) p, s.within, ap (λ x. x.place) is)) members some bracket
 
-module _ (p : List ℕ) (at i : ℕ) (old : Progress) (E : List Range → Type 0) (lt : i < length p) (small : get_or p i 0 < 256) (far : Far p at i old E) where
-  goes : Goes (class_next (class_kind (get_or p i 0)) (get_or p i 0) far.ranges (state_of old)) (take (i - at) (drop at p)) (get_or p i 0)
-  goes = class_goes (get_or p i 0) small far.ranges (state_of old) _ far.class
+module _ (p : List ℕ) (at i b : ℕ) (old : Progress) (E : List Range → Type 0) (lt : i < length p) (byte : get_or p i 0 ≡ b) (small : b < 256) (far : Far p at i old E) where
+  longer : take (i + 1 - at) (drop at p) ≡ take (i - at) (drop at p) ++ b ∷ []
+  longer = one_more p at i far.forward lt ∙ ap (λ x. take (i - at) (drop at p) ++ x ∷ []) byte
 
-  done : Done (class_next (class_kind (get_or p i 0)) (get_or p i 0) far.ranges (state_of old)) (far.ranges ++ done_by old (get_or p i 0))
-  done = next_done old (get_or p i 0) far.ranges
+  goes : Goes (class_next (class_kind b) b far.ranges (state_of old)) (take (i - at) (drop at p)) b
+  goes = class_goes b small far.ranges (state_of old) _ far.class
+
+  done : Done (class_next (class_kind b) b far.ranges (state_of old)) (far.ranges ++ done_by old b)
+  done = next_done old b far.ranges
 
   -- a class that ends here would be read, and the automaton is still inside one
-  goes_on : (ms : List Range) → Members (take (i - at) (drop at p)) ms → 0 < length ms → get_or p i 0 ≡ 93 → (rs : List Range) (new : Progress)
-      → class_next (class_kind (get_or p i 0)) (get_or p i 0) far.ranges (state_of old) ≡ inside rs (state_of new) → ⊥
+  goes_on : (ms : List Range) → Members (take (i - at) (drop at p)) ms → 0 < length ms → b ≡ 93 → (rs : List Range) (new : Progress)
+      → class_next (class_kind b) b far.ranges (state_of old) ≡ inside rs (state_of new) → ⊥
   goes_on ms members some bracket rs new is =
       let v = take (i - at) (drop at p) in
       let ended = class_runs opened 0 [] members some [] ∙ verdict_end (state (after (one ms)) opened 0 []) in
       let not_ended =
-      far.over opened 0 [] (93 ∷ []) ∙ ap (λ b. verdict (state (in_class far.ranges (state_of old)) opened 0 []) (b ∷ [])) (sym bracket)
-      ∙ verdict_alive _ (state (in_class rs (state_of new)) opened 0 []) (get_or p i 0) [] (ap (λ n. of_class n opened 0 []) is) ∙ verdict_end (state (in_class rs (state_of new)) opened 0 []) in
+      far.over opened 0 [] (93 ∷ []) ∙ ap (λ x. verdict (state (in_class far.ranges (state_of old)) opened 0 []) (x ∷ [])) (sym bracket)
+      ∙ verdict_alive _ (state (in_class rs (state_of new)) opened 0 []) b [] (ap (λ n. of_class n opened 0 []) is) ∙ verdict_end (state (in_class rs (state_of new)) opened 0 []) in
       never _ 0 (sym not_ended ∙ ended)
 
-  pub far_more : (new : Progress) (E' : List Range → Type 0) → ((rs : List Range) → E rs → E' (rs ++ done_by old (get_or p i 0))) → Follows old (get_or p i 0) Inside new → Far p at (i + 1) new E'
+  pub far_more : (new : Progress) (E' : List Range → Type 0) → ((rs : List Range) → E rs → E' (rs ++ done_by old b)) → Follows old b (Some Inside) new → Far p at (i + 1) new E'
   far_more new E' told follows =
       let (rs, is, suits) = follows far.ranges far.suits in
       let le = far.forward in
@@ -97,38 +100,37 @@ module _ (p : List ℕ) (at i : ℕ) (old : Progress) (E : List Range → Type 0
         forward = omega arith;
         ranges = rs;
         suits = suits;
-        holds = subst E' (sym (subst (λ n. Done n (far.ranges ++ done_by old (get_or p i 0))) is done)) (told far.ranges far.holds);
-        class = subst (Class rs (state_of new)) (sym (one_more p at i le lt)) (subst (λ n. Goes n (take (i - at) (drop at p)) (get_or p i 0)) is goes);
+        holds = subst E' (sym (subst (λ n. Done n (far.ranges ++ done_by old b)) is done)) (told far.ranges far.holds);
+        class = subst (Class rs (state_of new)) (sym longer) (subst (λ n. Goes n (take (i - at) (drop at p)) b) is goes);
         over = λ fr d ctx w.
-            ap (λ l. verdict (state (in_class [] fresh) fr d ctx) (l ++ w)) (one_more p at i le lt) ∙ ap (verdict _) (append_assoc (take (i - at) (drop at p)) (get_or p i 0 ∷ []) w)
-            ∙ far.over fr d ctx (get_or p i 0 ∷ w) ∙ verdict_alive _ (state (in_class rs (state_of new)) fr d ctx) (get_or p i 0) w (ap (λ n. of_class n fr d ctx) is);
+            ap (λ l. verdict (state (in_class [] fresh) fr d ctx) (l ++ w)) longer ∙ ap (verdict _) (append_assoc (take (i - at) (drop at p)) (b ∷ []) w)
+            ∙ far.over fr d ctx (b ∷ w) ∙ verdict_alive _ (state (in_class rs (state_of new)) fr d ctx) b w (ap (λ n. of_class n fr d ctx) is);
         open' = λ n ms small' members some bracket.
             ⊎_elim (λ (before : n < i - at). far.open' n ms before members some bracket)
-            (λ (ge : i - at ≤ n). let here : n ≡ i - at = omega arith in goes_on ms (subst (λ k. Members (take k (drop at p)) ms) here members) some (let place : at + n ≡ i = omega arith in ap (λ k. get_or p k 0) (sym place) ∙ bracket) rs new is)
+            (λ (ge : i - at ≤ n). let here : n ≡ i - at = omega arith in goes_on ms (subst (λ k. Members (take k (drop at p)) ms) here members) some (let place : at + n ≡ i = omega arith in sym byte ∙ ap (λ k. get_or p k 0) (sym place) ∙ bracket) rs new is)
             (cases_lt n (i - at));
       }
 
-  pub far_ended : (new : Progress) (E' : List Range → Type 0) → ((rs : List Range) → E rs → E' (rs ++ done_by old (get_or p i 0))) → Follows old (get_or p i 0) Ended new → ClassHeard p at i E'
+  pub far_ended : (new : Progress) (E' : List Range → Type 0) → ((rs : List Range) → E rs → E' (rs ++ done_by old b)) → Follows old b (Some Ended) new → ClassHeard p at i E'
   far_ended new E' told follows =
       let (rs, is) = follows far.ranges far.suits in
-      let (bracket, some, ms) = subst (λ n. Goes n (take (i - at) (drop at p)) (get_or p i 0)) is goes in
+      let (bracket, some, ms) = subst (λ n. Goes n (take (i - at) (drop at p)) b) is goes in
       record {
-        read = record { forward = far.forward; within = lt; bracket = bracket; members = rs; some = some; written = ms };
-        holds = subst E' (sym (subst (λ n. Done n (far.ranges ++ done_by old (get_or p i 0))) is done)) (told far.ranges far.holds);
+        read = record { forward = far.forward; within = lt; bracket = byte ∙ bracket; members = rs; some = some; written = ms };
+        holds = subst E' (sym (subst (λ n. Done n (far.ranges ++ done_by old b)) is done)) (told far.ranges far.holds);
       }
 
-  pub far_refused : (new : Progress) (f : Fault) → Follows old (get_or p i 0) Refused new → f ≡ refused BadlyWritten i → ClassRefused p at f
+  pub far_refused : (new : Progress) (f : Fault) → Follows old b None new → f ≡ refused BadlyWritten i → ClassRefused p at f
   far_refused new f follows is = record { none = class_none p at i f far.open' stop is; stops = stop }
     where
       stop : ClassStops p at f
       stop fr d ctx =
           stopped p f i _ is (omega arith)
-          (runs p at i old E far fr d ctx ∙ stops_at p i _ (omega arith) refl (λ _. ap (λ n. of_class n fr d ctx) (follows far.ranges far.suits)))
+          (runs p at i old E far fr d ctx ∙ stops_at p i _ (omega arith) refl (λ _. ap (λ x. of_class (class_next (class_kind x) x far.ranges (state_of old)) fr d ctx) byte ∙ ap (λ n. of_class n fr d ctx) (follows far.ranges far.suits)))
 
-pub far_all : (p : List ℕ) (at i : ℕ) (old : Progress) (E : List Range → Type 0) (f : Fault) → Far p at i old E → i ≡ length p → f ≡ refused BadlyWritten (length p) → ClassRefused p at f
-far_all p at i old E f far all is = record { none = class_none p at i f far.open' stop (is ∙ ap (refused BadlyWritten) (sym all)); stops = stop }
+-- the pattern ends here, and no class did
+pub far_all : (p : List ℕ) (at i : ℕ) (old : Progress) (E : List Range → Type 0) (f : Fault) → Far p at i old E → length p ≤ i → i ≤ length p → f ≡ refused BadlyWritten i → ClassRefused p at f
+far_all p at i old E f far past within is = record { none = class_none p at i f far.open' stop is; stops = stop }
   where
     stop : ClassStops p at f
-    stop fr d ctx =
-        stopped p f (length p) _ is (omega arith)
-        (runs p at i old E far fr d ctx ∙ ap (λ n. verdict (state (in_class far.ranges (state_of old)) fr d ctx) (drop n p)) all ∙ stops_at p (length p) _ (omega arith) refl (λ lt. absurd (omega arith)))
+    stop fr d ctx = stopped p f i _ is within (runs p at i old E far fr d ctx ∙ stops_at p i _ within refl (λ lt. absurd (omega arith)))

@@ -1,5 +1,5 @@
 -- How the class reader's state follows the automaton's, way by way. Assumes nothing.
-use Rattle.std.proofs.Common.{◌≡◌, ℕ, ◌<◌, ◌≤◌, true, ◌&&◌, leb, List, [], ◌∷◌, ◌++◌, length, sym, refl, ap, ◌∙◌, subst, arith}
+use Rattle.std.proofs.Common.{◌≡◌, ℕ, ◌<◌, ◌≤◌, true, ◌&&◌, leb, List, [], ◌∷◌, ◌++◌, length, Option, Some, sym, refl, ap, ◌∙◌, subst, arith}
 use Rattle.std.proofs.lemmas.List.{length-append}
 use Rattle.std.proofs.lemmas.Bool.{cond-true, le-leb, and_from, true≢false}
 use Rattle.pattern.specs.declared.class.Progress.{Progress}
@@ -22,49 +22,49 @@ itself_is hyphen e = absurd (true≢false e)
 itself_is barred e = absurd (true≢false e)
 itself_is itself e = refl
 
-pub gone : (from next old new : Progress) (a b : ℕ) (t : Taken) → old ≡ from → b ≡ a → t ≡ Inside → new ≡ next → Follows from a Inside next → Follows old b t new
+pub gone : (from next old new : Progress) (a b : ℕ) (t : Option Taken) → old ≡ from → b ≡ a → t ≡ Some Inside → new ≡ next → Follows from a (Some Inside) next → Follows old b t new
 gone from next old new a b t is byte inside moved follows =
-    subst (λ x. Follows x b t new) (sym is) (subst (λ x. Follows from x t new) (sym byte) (subst (λ x. Follows from a x new) (sym inside) (subst (λ x. Follows from a Inside x) (sym moved) follows)))
+    subst (λ x. Follows x b t new) (sym is) (subst (λ x. Follows from x t new) (sym byte) (subst (λ x. Follows from a x new) (sym inside) (subst (λ x. Follows from a (Some Inside) x) (sym moved) follows)))
 
-pub ends_between : Follows Between 93 Ended Between
+pub ends_between : Follows Between 93 (Some Ended) Between
 ends_between [] some = absurd (omega arith)
 ends_between (r ∷ rs) some = (r ∷ rs, refl)
 
-pub between_slash : Follows Between 92 Inside Escape
+pub between_slash : Follows Between 92 (Some Inside) Escape
 between_slash rs some = (rs, refl, tt)
 
-pub empty_slash : Follows Empty 92 Inside Escape
+pub empty_slash : Follows Empty 92 (Some Inside) Escape
 empty_slash rs none = (rs, refl, tt)
 
-pub member_slash : (a : ℕ) → Follows (Member a) 92 Inside Escape
+pub member_slash : (a : ℕ) → Follows (Member a) 92 (Some Inside) Escape
 member_slash a rs _ = (rs ++ (a, a) ∷ [], refl, tt)
 
-pub empty_byte : (b : ℕ) → class_kind b ≡ itself → Follows Empty b Inside (Member b)
+pub empty_byte : (b : ℕ) → class_kind b ≡ itself → Follows Empty b (Some Inside) (Member b)
 empty_byte b is rs _ = (rs, ap (λ k. class_next k b rs fresh) is, tt)
 
-pub between_byte : (b : ℕ) → class_kind b ≡ itself → Follows Between b Inside (Member b)
+pub between_byte : (b : ℕ) → class_kind b ≡ itself → Follows Between b (Some Inside) (Member b)
 between_byte b is rs _ = (rs, ap (λ k. class_next k b rs fresh) is, tt)
 
-pub member_byte : (a b : ℕ) → class_kind b ≡ itself → Follows (Member a) b Inside (Member b)
+pub member_byte : (a b : ℕ) → class_kind b ≡ itself → Follows (Member a) b (Some Inside) (Member b)
 member_byte a b is rs _ = (rs ++ (a, a) ∷ [], ap (λ k. class_next k b rs (member a)) is, tt)
 
-pub member_dash : (a : ℕ) → Follows (Member a) 45 Inside (Dash a)
+pub member_dash : (a : ℕ) → Follows (Member a) 45 (Some Inside) (Dash a)
 member_dash a rs _ = (rs, refl, tt)
 
-pub dash_slash : (a : ℕ) → a ≤ 125 → Follows (Dash a) 92 Inside (DashEscape a)
+pub dash_slash : (a : ℕ) → a ≤ 125 → Follows (Dash a) 92 (Some Inside) (DashEscape a)
 dash_slash a low rs _ = (rs, cond-true (leb a 125) _ _ (le-leb a 125 low), tt)
 
-pub dash_byte : (a b : ℕ) → class_kind b ≡ itself → a ≤ b → Follows (Dash a) b Inside Between
+pub dash_byte : (a b : ℕ) → class_kind b ≡ itself → a ≤ b → Follows (Dash a) b (Some Inside) Between
 dash_byte a b is le rs _ = (rs ++ (a, b) ∷ [], ap (λ k. class_next k b rs (dashed a)) is ∙ cond-true (leb a b) _ _ (le-leb a b le), push_some rs (a, b))
 
-pub escape_byte : (b : ℕ) → escapable b ≡ true → Follows Escape b Inside (Member b)
+pub escape_byte : (b : ℕ) → escapable b ≡ true → Follows Escape b (Some Inside) (Member b)
 escape_byte b is rs _ = (rs, cond-true (escapable b) _ _ is, tt)
 
-pub dash_escape_byte : (a b : ℕ) → escapable b ≡ true → a ≤ b → Follows (DashEscape a) b Inside Between
+pub dash_escape_byte : (a b : ℕ) → escapable b ≡ true → a ≤ b → Follows (DashEscape a) b (Some Inside) Between
 dash_escape_byte a b is le rs _ = (rs ++ (a, b) ∷ [], cond-true (escapable b && leb a b) _ _ (and_from _ _ is (le-leb a b le)), push_some rs (a, b))
 
-pub ends_member : (a : ℕ) → Follows (Member a) 93 Ended (Member a)
+pub ends_member : (a : ℕ) → Follows (Member a) 93 (Some Ended) (Member a)
 ends_member a rs _ = (rs ++ (a, a) ∷ [], refl)
 
-pub ended : (from old new : Progress) (a b : ℕ) → old ≡ from → b ≡ a → Follows from a Ended from → Follows old b Ended new
-ended from old new a b is byte follows = subst (λ x. Follows x b Ended new) (sym is) (subst (λ x. Follows from x Ended new) (sym byte) follows)
+pub ended : (from old new : Progress) (a b : ℕ) → old ≡ from → b ≡ a → Follows from a (Some Ended) from → Follows old b (Some Ended) new
+ended from old new a b is byte follows = subst (λ x. Follows x b (Some Ended) new) (sym is) (subst (λ x. Follows from x (Some Ended) new) (sym byte) follows)

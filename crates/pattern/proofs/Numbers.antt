@@ -4,7 +4,7 @@ use Rattle.std.proofs.lemmas.Fmt.{decimal_digit}
 use Rattle.std.proofs.lemmas.Bool.{and_parts, leb-true, lt-leb, and_right}
 use Rattle.fault.specs.declared.Fault.{Fault}
 use Rattle.fault.specs.declared.Refusal.TheVariants.{BadlyWritten}
-use Rattle.pattern.specs.Automaton.{state, in_count, awaiting, digits, CountKind, digit, comma, ended, other, no_count, counting, Stage, bound, count_can_begin, count_can_go_on, count_kind, count_next, of_count, verdict}
+use Rattle.pattern.specs.Automaton.{state, in_count, awaiting, digits, CountKind, digit, comma, ended, other, no_count, counting, Stage, bound, count_can_begin, count_can_go_on, count_kind, count_next, of_count}
 use Rattle.pattern.specs.Refusals.{refused}
 use Rattle.pattern.specs.Repeats.{NumberRead, NumberRefused}
 use Rattle.pattern.proofs.Chars.{digit_kind}
@@ -50,25 +50,23 @@ module _ (p : List ℕ) (at low : ℕ) where
     runs = λ s low_is e fr d ctx. moves p at _ _ _ lt refl (ap (λ n. of_count n e fr d ctx) (begin_is _ k s true byte small (ap (λ m. count_can_begin m k) low_is ∙ can)));
   }
 
-  pub two_digits : (j k : ℕ) → at + 1 < length p → j < 10 → k < 10 → get_or p at 0 ≡ 48 + j → get_or p (at + 1) 0 ≡ 48 + k → count_can_begin low j ≡ true → count_can_go_on low j k ≡ true → NumberRead p at low (10 * j + k) (at + 2)
+  pub two_digits : (j k : ℕ) → at + 1 < length p → j < 10 → k < 10 → get_or p at 0 ≡ 48 + j → get_or p (at + 1) 0 ≡ 48 + k → count_can_begin low j ≡ true → count_can_go_on low j k ≡ true → NumberRead p at low (10 * j + k) (at + 1 + 1)
   two_digits j k lt small last one two can on =
       let parts = and_parts _ _ on in
       let some = leb-true 1 j parts.0 in
       let top : 10 * j + k ≤ 32 = leb-true _ 32 (and_parts (leb low (10 * j + k)) _ parts.1).1 in
-      let next : at + 1 + 1 ≡ at + 2 = omega arith in
       let q : (10 * j + k) / 10 ≡ j = omega arith in
       let r : (10 * j + k) % 10 ≡ k = omega arith in
       let digits_are : decimal (10 * j + k) ≡ (48 + j) ∷ ((48 + k) ∷ []) = decimal_two (10 * j + k) (omega arith) (omega arith) ∙ (λ i. (48 + q i) ∷ ((48 + r i) ∷ [])) in
       record {
         within = omega arith;
-        long = ap (λ l. at + length l) digits_are;
-        text = drop_is p at _ (omega arith) one ∙ ap (λ l. (48 + j) ∷ l) (drop_is p (at + 1) _ lt two ∙ ap (λ n. (48 + k) ∷ drop n p) next) ∙ ap (λ l. l ++ drop (at + 2) p) (sym digits_are);
+        long = omega (arith, ap length digits_are);
+        text = drop_is p at _ (omega arith) one ∙ ap (λ l. (48 + j) ∷ l) (drop_is p (at + 1) _ lt two) ∙ ap (λ l. l ++ drop (at + 1 + 1) p) (sym digits_are);
         small = top;
         stuck = λ n _ _. and_right (leb 1 (10 * j + k)) _ (and_right (leb low (10 * (10 * j + k) + n)) _ (lt-leb (10 * (10 * j + k) + n) 32 (omega arith)));
         runs = λ s low_is e fr d ctx.
             moves p at _ _ (state (in_count e (digits s j)) fr d ctx) (omega arith) refl (ap (λ n. of_count n e fr d ctx) (begin_is _ j s true one small (ap (λ m. count_can_begin m j) low_is ∙ can)))
-            ∙ moves p (at + 1) _ _ (state (in_count e (digits s (10 * j + k))) fr d ctx) lt refl (ap (λ n. of_count n e fr d ctx) (go_on_is _ j k s true two last (ap (λ m. count_can_go_on m j k) low_is ∙ on)))
-            ∙ ap (λ n. verdict (state (in_count e (digits s (10 * j + k))) fr d ctx) (drop n p)) next;
+            ∙ moves p (at + 1) _ _ (state (in_count e (digits s (10 * j + k))) fr d ctx) lt refl (ap (λ n. of_count n e fr d ctx) (go_on_is _ j k s true two last (ap (λ m. count_can_go_on m j k) low_is ∙ on)));
       }
 
 -- the one digit that stands there is the one that was tried

@@ -4,12 +4,12 @@
 --   ClassRead p at end    the inside of the class is p from `at` to `end`, where its bracket stands
 --   ClassHeard .. E       its members satisfy E
 --   ClassStops            the fault has the place where the automaton stops
-use Rattle.std.specs.Prelude.{◌≡◌, ℕ, ◌+◌, ◌<◌, ◌≤◌, cond, List, [], ◌∷◌, length, take, drop, ◌==◌, ◌≢◌, slice_index, slice_index_or, slice_range}
+use Rattle.std.specs.Prelude.{◌≡◌, ℕ, ◌+◌, ◌<◌, ◌≤◌, cond, Option, None, Some, List, [], ◌∷◌, length, take, drop, ◌==◌, ◌≢◌, slice_index, slice_index_or, slice_range}
 use Rattle.fault.specs.declared.Fault.{Fault}
 use Rattle.pattern.specs.declared.class.Progress.{Progress}
 use Rattle.pattern.specs.declared.class.Progress.TheVariants.{Empty, Between, Member, Dash, Escape, DashEscape}
 use Rattle.pattern.specs.declared.class.Taken.{Taken}
-use Rattle.pattern.specs.declared.class.Taken.TheVariants.{Inside, Ended, Refused}
+use Rattle.pattern.specs.declared.class.Taken.TheVariants.{Inside, Ended}
 use Rattle.pattern.specs.Characters.{class_kind}
 use Rattle.pattern.specs.Expressions.{Range}
 use Rattle.pattern.specs.Grammar.{Members}
@@ -33,12 +33,12 @@ Suits rs (Dash a) = Unit {0}
 Suits rs Escape = Unit {0}
 Suits rs (DashEscape a) = Unit {0}
 
-abbrev pub Leads : Taken → ClassNext → Progress → Type 0
-Leads Inside n new = (rs : List Range) × (n ≡ inside rs (state_of new)) × Suits rs new
-Leads Ended n new = (rs : List Range) × (n ≡ finished rs)
-Leads Refused n new = n ≡ no_class
+abbrev pub Leads : Option Taken → ClassNext → Progress → Type 0
+Leads (Some Inside) n new = (rs : List Range) × (n ≡ inside rs (state_of new)) × Suits rs new
+Leads (Some Ended) n new = (rs : List Range) × (n ≡ finished rs)
+Leads None n new = n ≡ no_class
 
-abbrev pub Follows : Progress → ℕ → Taken → Progress → Type 0
+abbrev pub Follows : Progress → ℕ → Option Taken → Progress → Type 0
 Follows old b t new = (rs : List Range) → Suits rs old → Leads t (class_next (class_kind b) b rs (state_of old)) new
 
 -- the members that are finished once the byte b has been taken

@@ -1,11 +1,11 @@
 // The class, from after its bracket: its state and the next byte together decide.
-ghost use Rattle.std.specs.Prelude.{◌≡◌, ◌≤◌, List, ◌++◌, length, MatchResult};
+ghost use Rattle.std.specs.Prelude.{◌≡◌, List, ◌++◌, IfOk, MatchResult};
 ghost use Rattle.pattern.specs.Characters.{escapable, class_kind, kind_is_itself};
 ghost use Rattle.pattern.specs.Expressions.{Range};
 ghost use Rattle.pattern.specs.Classes.{Follows, done_by, ClassHeard, ClassRead, ClassRefused};
 
+use crate::cursor::Cursor;
 use crate::gathering::{Gathering, Unseen};
-use crate::refusal::badly_written;
 use fault::Fault;
 
 // How far the member in hand has come; the byte is its first.
@@ -19,39 +19,36 @@ pub enum Progress {
     DashEscape(u8),
 }
 
+// Where a byte leaves the class that it can stand in.
 #[derive(Clone, Copy)]
 pub enum Taken {
     Inside,
     Ended,
-    Refused,
 }
 
 pub(crate) fn is_escapable(byte: u8) -> bool
     ensures value { result ≡ escapable byte }
 {
-    match byte as char {
-        '|' | '*' | '+' | '?' | '(' | ')' | '[' | ']' | '{' | '}' | '.' | '\\' | '-' | '^' => true,
-        _ => false,
-    }
+    matches!(
+        byte as char,
+        '|' | '*' | '+' | '?' | '(' | ')' | '[' | ']' | '{' | '}' | '.' | '\\' | '-' | '^'
+    )
 }
 
 // What has no office inside a class.
 fn is_itself(byte: u8) -> bool
     ensures value { result ≡ kind_is_itself (class_kind byte) }
 {
-    match byte as char {
-        '[' | ']' | '\\' | '-' | '^' => false,
-        _ => true,
-    }
+    !matches!(byte as char, '[' | ']' | '\\' | '-' | '^')
 }
 
 impl Progress {
-    fn go(&mut self, next: Progress) -> Taken
-        ensures value { result ≡ Taken.Inside }
+    fn go(&mut self, next: Progress) -> Option<Taken>
+        ensures value { result ≡ Some Taken.Inside }
         ensures left { self.new ≡ next }
     {
         *self = next;
-        Taken::Inside
+        Some(Taken::Inside)
     }
 
     // The members that are finished once `byte` has been taken.
@@ -80,60 +77,61 @@ impl Progress {
         }
     }
 
-    fn take(&mut self, byte: u8) -> Taken
+    // `None` where the byte cannot stand here.
+    fn take(&mut self, byte: u8) -> Option<Taken>
         ensures cases { Follows self.old byte result self.new }
     {
         match (*self, byte as char) {
             (Progress::Empty, '\\') => self.go(Progress::Escape),
             (Progress::Empty, _) if is_itself(byte) => self.go(Progress::Member(byte)),
-            (Progress::Empty, _) => Taken::Refused,
-            (Progress::Between, ']') => Taken::Ended,
+            (Progress::Empty, _) => None,
+            (Progress::Between, ']') => Some(Taken::Ended),
             (Progress::Between, '\\') => self.go(Progress::Escape),
             (Progress::Between, _) if is_itself(byte) => self.go(Progress::Member(byte)),
-            (Progress::Between, _) => Taken::Refused,
-            (Progress::Member(_), ']') => Taken::Ended,
+            (Progress::Between, _) => None,
+            (Progress::Member(_), ']') => Some(Taken::Ended),
             (Progress::Member(first), '-') => self.go(Progress::Dash(first)),
             (Progress::Member(_), '\\') => self.go(Progress::Escape),
             (Progress::Member(_), _) if is_itself(byte) => self.go(Progress::Member(byte)),
-            (Progress::Member(_), _) => Taken::Refused,
+            (Progress::Member(_), _) => None,
             (Progress::Dash(first), '\\') if first <= b'}' => self.go(Progress::DashEscape(first)),
             (Progress::Dash(first), _) if first <= byte && is_itself(byte) => self.go(
                 Progress::Between,
             ),
-            (Progress::Dash(_), _) => Taken::Refused,
+            (Progress::Dash(_), _) => None,
             (Progress::Escape, _) if is_escapable(byte) => self.go(Progress::Member(byte)),
-            (Progress::Escape, _) => Taken::Refused,
+            (Progress::Escape, _) => None,
             (Progress::DashEscape(first), _) if first <= byte && is_escapable(byte) => self.go(
                 Progress::Between,
             ),
-            (Progress::DashEscape(_), _) => Taken::Refused,
+            (Progress::DashEscape(_), _) => None,
         }
     }
 }
 
 // Where the bracket stands that ends the class, and its members.
-pub(crate) fn gather<T: Gathering>(p: &[u8], at: usize) -> Result<(usize, T), Fault>
-    requires within { at ≤ length p.now }
-    ensures cases { MatchResult result (λ o. ClassHeard p.now at o.0 (T.Gathering.holds o.1)) (λ f. ClassRefused p.now at f) }
+pub(crate) fn gather<T: Gathering>(from: Cursor) -> Result<(Cursor, T), Fault>
+    ensures cases { MatchResult result (λ o. ClassHeard from.entry.pattern.now from.entry.at o.0.at (T.Gathering.holds o.1)) (λ f. ClassRefused from.entry.pattern.now from.entry.at f) }
+    ensures same { IfOk result (λ o. o.0.pattern.now ≡ from.entry.pattern.now) }
 {
+    let mut here = from;
     let mut progress = Progress::Empty;
     let mut found = T::none();
-    for i in at..p.len() {
-        found = progress.finished(&found, p[i]);
-        match progress.take(p[i]) {
-            Taken::Inside => {}
-            Taken::Ended => return Ok((i, found)),
-            Taken::Refused => return Err(badly_written(i)),
+    loop {
+        let byte = here.byte()?;
+        found = progress.finished(&found, byte);
+        match progress.take(byte).ok_or(here.refuse())? {
+            Taken::Inside => here = here.next(),
+            Taken::Ended => return Ok((here, found)),
         }
     }
-    Err(badly_written(p.len()))
 }
 
 // Where the bracket stands that ends the class.
-pub(crate) fn end(p: &[u8], at: usize) -> Result<usize, Fault>
-    requires within { at ≤ length p.now }
-    ensures cases { MatchResult result (λ end. ClassRead p.now at end) (λ f. ClassRefused p.now at f) }
+pub(crate) fn end(from: Cursor) -> Result<Cursor, Fault>
+    ensures cases { MatchResult result (λ end. ClassRead from.entry.pattern.now from.entry.at end.at) (λ f. ClassRefused from.entry.pattern.now from.entry.at f) }
+    ensures same { IfOk result (λ end. end.pattern.now ≡ from.entry.pattern.now) }
 {
-    let (end, _) = gather::<Unseen>(p, at)?;
+    let (end, _) = gather::<Unseen>(from)?;
     Ok(end)
 }

@@ -4,6 +4,7 @@
 pub mod assembly;
 mod class;
 mod count;
+mod cursor;
 mod draft;
 pub mod examples;
 pub mod gathering;

@@ -1,48 +1,46 @@
 // The pattern reader: it follows the signs of a pattern and puts their parts together. A group is
 // read by the reader itself, with one level less left to nest.
-ghost use Rattle.std.specs.Prelude.{◌≡◌, ◌<◌, ◌≤◌, length, MatchOption, MatchResult, slice_index};
+ghost use Rattle.std.specs.Prelude.{◌≡◌, ◌<◌, length, IfOk, IfSome, MatchOption, MatchResult, slice_index};
 ghost use Rattle.pattern.specs.Drafts.{Keeps};
 ghost use Rattle.pattern.specs.Walks.{Halts, Steps, StepStops, GroupRead, GroupStops, AlternativesRead, AlternativesStop};
 
 use crate::assembly::Assembly;
+use crate::cursor::Cursor;
 use crate::draft::Draft;
-use crate::refusal::badly_written;
 use crate::sign::{Sign, sign_at};
 use crate::{class, repeat};
 use fault::Fault;
 
 #[cycle(alternatives_group_step)]
-fn group<T: Assembly>(p: &[u8], at: usize, depth: u8) -> Result<(usize, T), Fault>
-    requires paren { (at < length p.now) × (slice_index p.now at ≡ 40) }
-    ensures cases { MatchResult result (λ o. GroupRead p.now at depth o.0 (T.Assembly.stands o.1)) (λ f. GroupStops p.now at depth f) }
+fn group<T: Assembly>(from: Cursor, depth: u8) -> Result<(Cursor, T), Fault>
+    requires paren { (from.at < length from.pattern.now) × (slice_index from.pattern.now from.at ≡ 40) }
+    ensures cases { MatchResult result (λ o. GroupRead from.entry.pattern.now from.entry.at depth o.0.at (T.Assembly.stands o.1)) (λ f. GroupStops from.entry.pattern.now from.entry.at depth f) }
+    ensures same { IfOk result (λ o. o.0.pattern.now ≡ from.entry.pattern.now) }
 {
     if depth == 0 {
-        return Err(badly_written(at));
+        return Err(from.refuse());
     }
-    let (end, part) = alternatives(p, at + 1, depth - 1)?;
-    if end >= p.len() {
-        return Err(badly_written(end));
-    }
-    Ok((end + 1, part))
+    let (end, part) = alternatives(from.next(), depth - 1)?;
+    end.byte()?;
+    Ok((end.next(), part))
 }
 
 #[cycle(alternatives_group_step)]
-fn step<T: Assembly>(
-    p: &[u8],
-    at: usize,
+fn step<'a, T: Assembly>(
+    from: Cursor<'a>,
     depth: u8,
     draft: &Draft<T>,
-) -> Result<Option<(usize, Draft<T>)>, Fault>
-    requires within { at ≤ length p.now }
-    ensures cases { MatchResult result (λ o. MatchOption o (Halts p.now at) (λ x. Steps p.now at depth (Keeps T.Assembly.stands draft.now) x.0 (Keeps T.Assembly.stands x.1))) (λ f. StepStops p.now at depth (Keeps T.Assembly.stands draft.now) f) }
+) -> Result<Option<(Cursor<'a>, Draft<T>)>, Fault>
+    ensures cases { MatchResult result (λ o. MatchOption o (Halts from.entry.pattern.now from.entry.at) (λ x. Steps from.entry.pattern.now from.entry.at depth (Keeps T.Assembly.stands draft.now) x.0.at (Keeps T.Assembly.stands x.1))) (λ f. StepStops from.entry.pattern.now from.entry.at depth (Keeps T.Assembly.stands draft.now) f) }
+    ensures same { IfOk result (λ o. IfSome o (λ x. x.0.pattern.now ≡ from.entry.pattern.now)) }
 {
-    let sign = sign_at(p, at, draft.last.is_some())?;
-    let end = at + sign.len();
+    let sign = sign_at(from.pattern, from.at, draft.last.is_some())?;
+    let end = from.skip(sign.len());
     match sign {
         Sign::End => Ok(None),
         Sign::Close(_) => Ok(None),
         Sign::Open(_) => {
-            let (end, part) = group(p, at, depth)?;
+            let (end, part) = group(from, depth)?;
             Ok(Some((end, draft.atom(part))))
         }
         Sign::Bar(_) => Ok(Some((end, draft.bar()))),
@@ -50,14 +48,14 @@ fn step<T: Assembly>(
         Sign::Escape(t) => Ok(Some((end, draft.atom(T::byte(t[1]))))),
         Sign::Any(_) => Ok(Some((end, draft.atom(T::any())))),
         Sign::Class(_) => {
-            let (close, letters) = class::gather(p, at + 1)?;
-            Ok(Some((close + 1, draft.atom(T::class(&letters)))))
+            let (close, letters) = class::gather(from.next())?;
+            Ok(Some((close.next(), draft.atom(T::class(&letters)))))
         }
         Sign::Star(_) => Ok(Some((end, draft.repeated(|atom| atom.star())))),
         Sign::Plus(_) => Ok(Some((end, draft.repeated(|atom| atom.plus())))),
         Sign::Question(_) => Ok(Some((end, draft.repeated(|atom| atom.optional())))),
         Sign::Counted(_) => {
-            let ((least, most), end) = repeat::counts(p, at + 1)?;
+            let ((least, most), end) = repeat::counts(from.next())?;
             Ok(Some((end, draft.repeated(|atom| atom.counted(least, most)))))
         }
     }
@@ -65,19 +63,15 @@ fn step<T: Assembly>(
 
 // Where the alternatives that begin at `from` end, and what they were put together as.
 #[cycle(alternatives_group_step)]
-pub(crate) fn alternatives<T: Assembly>(
-    p: &[u8],
-    from: usize,
-    depth: u8,
-) -> Result<(usize, T), Fault>
-    requires within { from ≤ length p.now }
-    ensures cases { MatchResult result (λ o. AlternativesRead p.now from depth o.0 (T.Assembly.stands o.1)) (λ f. AlternativesStop p.now from depth f) }
+pub(crate) fn alternatives<T: Assembly>(from: Cursor, depth: u8) -> Result<(Cursor, T), Fault>
+    ensures cases { MatchResult result (λ o. AlternativesRead from.entry.pattern.now from.entry.at depth o.0.at (T.Assembly.stands o.1)) (λ f. AlternativesStop from.entry.pattern.now from.entry.at depth f) }
+    ensures same { IfOk result (λ o. o.0.pattern.now ≡ from.entry.pattern.now) }
 {
-    let mut at = from;
+    let mut here = from;
     let mut draft = Draft::new();
-    while let Some((next, more)) = step(p, at, depth, &draft)? {
-        at = next;
+    while let Some((next, more)) = step(here, depth, &draft)? {
+        here = next;
         draft = more;
     }
-    Ok((at, draft.closed()))
+    Ok((here, draft.closed()))
 }

@@ -1,22 +1,17 @@
 // The counted repeat, from after its brace: a least and a most count, or one for both.
-ghost use Rattle.std.specs.Prelude.{◌≡◌, ℕ, ◌+◌, ◌<◌, ◌≤◌, length, Decides, MatchOption, MatchResult, slice_index};
+ghost use Rattle.std.specs.Prelude.{◌≡◌, ℕ, ◌+◌, ◌<◌, ◌≤◌, length, Decides, IfOk, MatchOption, MatchResult, slice_index};
 ghost use Rattle.pattern.specs.Automaton.{count_kind, digit, count_can_begin, count_can_go_on};
 ghost use Rattle.pattern.specs.Repeats.{NumberRead, NumberRefused, CountsRead, CountsRefused};
 
-use crate::refusal::badly_written;
+use crate::cursor::Cursor;
 use fault::Fault;
 
-fn digit_at(p: &[u8], at: usize) -> Option<u8>
-    ensures value { MatchOption result ((k : ℕ) → count_kind (slice_index p.now at) ≡ digit k → at < length p.now → ⊥) (λ k. (at < length p.now) × (k < 10) × (slice_index p.now at ≡ 48 + k)) }
+fn digit_at(from: Cursor) -> Option<u8>
+    ensures value { MatchOption result ((k : ℕ) → count_kind (slice_index from.entry.pattern.now from.entry.at) ≡ digit k → from.entry.at < length from.entry.pattern.now → ⊥) (λ k. (from.entry.at < length from.entry.pattern.now) × (k < 10) × (slice_index from.entry.pattern.now from.entry.at ≡ 48 + k)) }
 {
-    if at < p.len() {
-        let b = p[at];
-        match b {
-            b'0'..=b'9' => Some(b - b'0'),
-            _ => None,
-        }
-    } else {
-        None
+    match from.peek() {
+        Some(byte @ b'0'..=b'9') => Some(byte - b'0'),
+        _ => None,
     }
 }
 
@@ -37,48 +32,46 @@ fn can_go_on(least: u8, first: u8, second: u8) -> bool
 }
 
 // A count is at most 32, so it has one or two digits.
-fn number(p: &[u8], at: usize, least: u8) -> Result<(u8, usize), Fault>
-    requires within { at ≤ length p.now }
-    ensures cases { MatchResult result (λ o. NumberRead p.now at least o.0 o.1) (λ f. NumberRefused p.now at least f) }
+fn number(from: Cursor, least: u8) -> Result<(u8, Cursor), Fault>
+    ensures cases { MatchResult result (λ o. NumberRead from.entry.pattern.now from.entry.at least o.0 o.1.at) (λ f. NumberRefused from.entry.pattern.now from.entry.at least f) }
+    ensures same { IfOk result (λ o. o.1.pattern.now ≡ from.entry.pattern.now) }
 {
-    let Some(first) = digit_at(p, at) else {
-        return Err(badly_written(at));
+    let Some(first) = digit_at(from) else {
+        return Err(from.refuse());
     };
     if !can_begin(least, first) {
-        return Err(badly_written(at));
+        return Err(from.refuse());
     }
-    let Some(second) = digit_at(p, at + 1) else {
-        return Ok((first, at + 1));
+    let after = from.next();
+    let Some(second) = digit_at(after) else {
+        return Ok((first, after));
     };
     if can_go_on(least, first, second) {
-        return Ok((10 * first + second, at + 2));
+        return Ok((10 * first + second, after.next()));
     }
-    Ok((first, at + 1))
+    Ok((first, after))
 }
 
-fn closes(p: &[u8], at: usize, least: u8, most: u8) -> bool
-    ensures cases { Decides result ((at < length p.now) × (slice_index p.now at ≡ 125) × (least ≤ most)) }
+fn closes(from: Cursor, least: u8, most: u8) -> bool
+    ensures cases { Decides result ((from.entry.at < length from.entry.pattern.now) × (slice_index from.entry.pattern.now from.entry.at ≡ 125) × (least ≤ most)) }
 {
-    at < p.len() && p[at] as char == '}' && least <= most
+    from.peek() == Some(b'}') && least <= most
 }
 
-pub(crate) fn counts(p: &[u8], at: usize) -> Result<((u8, u8), usize), Fault>
-    requires within { at ≤ length p.now }
-    ensures cases { MatchResult result (λ o. CountsRead p.now at o.0.0 o.0.1 o.1) (λ f. CountsRefused p.now at f) }
+pub(crate) fn counts(from: Cursor) -> Result<((u8, u8), Cursor), Fault>
+    ensures cases { MatchResult result (λ o. CountsRead from.entry.pattern.now from.entry.at o.0.0 o.0.1 o.1.at) (λ f. CountsRefused from.entry.pattern.now from.entry.at f) }
+    ensures same { IfOk result (λ o. o.1.pattern.now ≡ from.entry.pattern.now) }
 {
-    let (least, end) = number(p, at, 0)?;
-    if end >= p.len() {
-        return Err(badly_written(end));
-    }
-    match p[end] as char {
-        '}' => Ok(((least, least), end + 1)),
+    let (least, after) = number(from, 0)?;
+    match after.byte()? as char {
+        '}' => Ok(((least, least), after.next())),
         ',' => {
-            let (most, end) = number(p, end + 1, least)?;
-            if !closes(p, end, least, most) {
-                return Err(badly_written(end));
+            let (most, after) = number(after.next(), least)?;
+            if !closes(after, least, most) {
+                return Err(after.refuse());
             }
-            Ok(((least, most), end + 1))
+            Ok(((least, most), after.next()))
         }
-        _ => Err(badly_written(end)),
+        _ => Err(after.refuse()),
     }
 }

@@ -1,9 +1,10 @@
 // The signs that a pattern is made of, read one at a time.
-ghost use Rattle.std.specs.Prelude.{◌≡◌, ◌^◌, ◌<◌, true, false, length, MatchResult, slice_index};
+ghost use Rattle.std.specs.Prelude.{◌≡◌, ◌^◌, ◌<◌, Bool, true, false, length, MatchResult, slice_index};
 ghost use Rattle.fault.specs.declared.Refusal.TheVariants.{BadlyWritten};
 ghost use Rattle.pattern.specs.Refusals.{refused};
 ghost use Rattle.pattern.specs.Signs.{text, Handed, SignRefused};
 
+use crate::cursor::Cursor;
 use crate::refusal::badly_written;
 use crate::{class, repeat};
 use fault::Fault;
@@ -34,16 +35,16 @@ impl Sign<'_> {
         match self {
             Sign::Class(t) => t.len() + 2,
             Sign::End => 0,
-            Sign::Plain(t) => t.len(),
-            Sign::Escape(t) => t.len(),
-            Sign::Any(t) => t.len(),
-            Sign::Bar(t) => t.len(),
-            Sign::Star(t) => t.len(),
-            Sign::Plus(t) => t.len(),
-            Sign::Question(t) => t.len(),
-            Sign::Counted(t) => t.len(),
-            Sign::Open(t) => t.len(),
-            Sign::Close(t) => t.len(),
+            Sign::Plain(t)
+            | Sign::Escape(t)
+            | Sign::Any(t)
+            | Sign::Bar(t)
+            | Sign::Star(t)
+            | Sign::Plus(t)
+            | Sign::Question(t)
+            | Sign::Counted(t)
+            | Sign::Open(t)
+            | Sign::Close(t) => t.len(),
         }
     }
 }
@@ -59,36 +60,35 @@ fn repeat_sign(sign: Sign, at: usize, after: bool) -> Result<Sign, Fault>
     }
 }
 
-fn counted(p: &[u8], at: usize, after: bool) -> Result<Sign, Fault>
-    requires brace { (at < length p.now) × (slice_index p.now at ≡ 123) }
-    ensures cases { MatchResult result (λ s. Handed p.now at after s) (λ f. SignRefused p.now at after f) }
+fn counted(from: Cursor, after: bool) -> Result<Sign, Fault>
+    requires brace { (from.at < length from.pattern.now) × (slice_index from.pattern.now from.at ≡ 123) }
+    ensures cases { MatchResult result (λ s. Handed from.entry.pattern.now from.entry.at after s) (λ f. SignRefused from.entry.pattern.now from.entry.at after f) }
 {
     if !after {
-        return Err(badly_written(at));
+        return Err(from.refuse());
     }
-    let (_, end) = repeat::counts(p, at + 1)?;
-    Ok(Sign::Counted(&p[at..end]))
+    let (_, end) = repeat::counts(from.next())?;
+    Ok(Sign::Counted(from.until(end)))
 }
 
-fn class_sign(p: &[u8], at: usize, after: bool) -> Result<Sign, Fault>
-    requires bracket { (at < length p.now) × (slice_index p.now at ≡ 91) }
-    ensures cases { MatchResult result (λ s. Handed p.now at after s) (λ f. SignRefused p.now at after f) }
+fn class_sign(from: Cursor) -> Result<Sign, Fault>
+    requires bracket { (from.at < length from.pattern.now) × (slice_index from.pattern.now from.at ≡ 91) }
+    ensures cases { (after : Bool) → MatchResult result (λ s. Handed from.entry.pattern.now from.entry.at after s) (λ f. SignRefused from.entry.pattern.now from.entry.at after f) }
 {
-    let end = class::end(p, at + 1)?;
-    Ok(Sign::Class(&p[at + 1..end]))
+    let inside = from.next();
+    let end = class::end(inside)?;
+    Ok(Sign::Class(inside.until(end)))
 }
 
-fn escape(p: &[u8], at: usize, after: bool) -> Result<Sign, Fault>
-    requires backslash { (at < length p.now) × (slice_index p.now at ≡ 92) }
-    ensures cases { MatchResult result (λ s. Handed p.now at after s) (λ f. SignRefused p.now at after f) }
+fn escape(from: Cursor) -> Result<Sign, Fault>
+    requires backslash { (from.at < length from.pattern.now) × (slice_index from.pattern.now from.at ≡ 92) }
+    ensures cases { (after : Bool) → MatchResult result (λ s. Handed from.entry.pattern.now from.entry.at after s) (λ f. SignRefused from.entry.pattern.now from.entry.at after f) }
 {
-    if at + 1 >= p.len() {
-        return Err(badly_written(at + 1));
+    let escaped = from.next();
+    if !class::is_escapable(escaped.byte()?) {
+        return Err(escaped.refuse());
     }
-    if !class::is_escapable(p[at + 1]) {
-        return Err(badly_written(at + 1));
-    }
-    Ok(Sign::Escape(&p[at..at + 2]))
+    Ok(Sign::Escape(from.until(escaped.next())))
 }
 
 // The sign at `at`, where `after` says that an atom stands before it that can still be repeated.
@@ -98,6 +98,7 @@ pub fn sign_at(p: &[u8], at: usize, after: bool) -> Result<Sign, Fault>
     if at >= p.len() {
         return Ok(Sign::End);
     }
+    let from = Cursor { pattern: p, at };
     let byte = &p[at..at + 1];
     match p[at] as char {
         '|' => Ok(Sign::Bar(byte)),
@@ -106,12 +107,12 @@ pub fn sign_at(p: &[u8], at: usize, after: bool) -> Result<Sign, Fault>
         '?' => repeat_sign(Sign::Question(byte), at, after),
         '(' => Ok(Sign::Open(byte)),
         ')' => Ok(Sign::Close(byte)),
-        '[' => class_sign(p, at, after),
-        ']' => Err(badly_written(at)),
-        '{' => counted(p, at, after),
-        '}' => Err(badly_written(at)),
+        '[' => class_sign(from),
+        ']' => Err(from.refuse()),
+        '{' => counted(from, after),
+        '}' => Err(from.refuse()),
         '.' => Ok(Sign::Any(byte)),
-        '\\' => escape(p, at, after),
+        '\\' => escape(from),
         _ => Ok(Sign::Plain(byte)),
     }
 }

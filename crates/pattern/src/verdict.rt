@@ -4,8 +4,8 @@ ghost use Rattle.pattern.specs.Reading.{Granted, Refused, Assembled, Unwritten};
 
 use crate::assembly::Assembly;
 use crate::count::Count;
+use crate::cursor::Cursor;
 use crate::reader::alternatives;
-use crate::refusal::badly_written;
 use fault::{Fault, Layer, Refusal};
 
 const LONGEST: usize = 256;
@@ -21,11 +21,15 @@ pub(crate) fn assemble<T: Assembly>(bytes: &[u8]) -> Result<T, Fault>
     if bytes.len() > LONGEST {
         return Err(Layer::Pattern.fault(Refusal::PatternTooLong, bytes.len()));
     }
-    let (end, part) = alternatives(bytes, 0, DEEPEST)?;
-    if end < bytes.len() {
-        return Err(badly_written(end));
+    let start = Cursor {
+        pattern: bytes,
+        at: 0,
+    };
+    let (end, part) = alternatives(start, DEEPEST)?;
+    match end.peek() {
+        Some(_) => Err(end.refuse()),
+        None => Ok(part),
     }
-    Ok(part)
 }
 
 // The number of places.

@@ -1,18 +1,33 @@
-use Rattle.std.proofs.Common.{arith}
+use Rattle.std.proofs.Common.{length, refl, ap, ◌∙◌, arith}
+use Rattle.std.proofs.lemmas.Result.{err_from_is_err_and}
 use Rattle.pattern.proofs.ClassLoop.{far_none, far_more, far_ended, far_refused, far_all}
 use Rattle.pattern.proofs.class.gather.Goals as goal
 
-pub loop-i-init : goal.loop-i-init
-loop-i-init g c = far_none _ _ _ c.none-found.ensures.value
+pub loop-byte-init : goal.loop-byte-init
+loop-byte-init g c = (refl, far_none _ _ _ c.none-found.ensures.value)
 
-pub returns-in-Ended : goal.returns-in-Ended
-returns-in-Ended g c = record { cases = far_ended _ _ _ _ _ c.loop-i-test.true (c.type_inv.p _).fits c.loop-i.invariant c.loop-i.progress _ c.finished-found.ensures.value c.in-Ended.ensures.cases }
+pub returns-in_err-byte-clause-cases : goal.returns-in_err-byte-clause-cases
+returns-in_err-byte-clause-cases g c =
+    let p = err_from_is_err_and c.from_residual.result c.from_residual.ensures.1 in
+    let (same, far) = c.loop-byte.invariant in
+    let (past, is) = rw same at c.in_err-byte.ensures.cases in
+    rw (p.1, p.2) (far_all _ _ _ _ _ _ far past (omega (arith, c.loop-byte.here.within, ap length same)) is)
 
-pub returns-in-Refused : goal.returns-in-Refused
-returns-in-Refused g c = record { cases = far_refused _ _ _ _ _ c.loop-i-test.true (c.type_inv.p _).fits c.loop-i.invariant c.loop-i.progress _ c.in-Refused.ensures.cases c.badly_written.ensures.value }
+pub returns-in_err-ok_or-clause-cases : goal.returns-in_err-ok_or-clause-cases
+returns-in_err-ok_or-clause-cases g c =
+    let p = err_from_is_err_and c.from_residual-in_err-ok_or.result c.from_residual-in_err-ok_or.ensures.1 in
+    let (same, far) = c.loop-byte.invariant in
+    let (lt, is) = rw same at c.in_ok-byte.ensures.cases in
+    rw (p.1, p.2) (far_refused _ _ _ _ _ _ lt is (omega arith) far c.take.new.self _ (rw c.in_err-ok_or.ensures.ok_part at c.take.ensures.cases) (grind arith))
 
-pub loop-i-preserved : goal.loop-i-preserved
-loop-i-preserved g c = far_more _ _ _ _ _ c.loop-i-test.true (c.type_inv.p _).fits c.loop-i.invariant _ _ c.finished-found.ensures.value c.in-Inside.ensures.cases
+pub loop-byte-preserved : goal.loop-byte-preserved
+loop-byte-preserved g c =
+    let (same, far) = c.loop-byte.invariant in
+    let (lt, is) = rw same at c.in_ok-byte.ensures.cases in
+    (c.next-here.ensures.pattern ∙ same, rw c.next-here.ensures.at (far_more _ _ _ _ _ _ lt is (omega arith) far _ _ c.finished-found.ensures.value (rw (c.in_ok-ok_or.ensures.ok_part, c.in-Inside.is) at c.take.ensures.cases)))
 
-pub returns : goal.returns
-returns g c = record { cases = far_all _ _ _ _ _ _ c.loop-i.invariant (omega arith) c.badly_written-2.ensures.value }
+pub returns-in-Ended-clause-cases : goal.returns-in-Ended-clause-cases
+returns-in-Ended-clause-cases g c =
+    let (same, far) = c.loop-byte.invariant in
+    let (lt, is) = rw same at c.in_ok-byte.ensures.cases in
+    far_ended _ _ _ _ _ _ lt is (omega arith) far c.take.new.self _ c.finished-found.ensures.value (rw (c.in_ok-ok_or.ensures.ok_part, c.in-Ended.is) at c.take.ensures.cases)

@@ -1,4 +1,4 @@
-use Rattle.std.proofs.Common.{◌+◌, ◌-◌, ◌*◌, ◌≤◌, length}
+use Rattle.std.proofs.Common.{◌≡◌, ◌+◌, ◌-◌, ◌*◌, ◌≤◌, length}
 use Rattle.pattern.specs.Automaton.{ready, opened}
 use Rattle.pattern.specs.Drafts.{Keeps}
 use Rattle.pattern.specs.Walks.{Leads}
@@ -14,7 +14,8 @@ abbrev pub decreases-group : goal.decreases-group
 decreases-group g l = 3 * l.depth
 
 abbrev pub invariant-alternatives-loop-next : goal.invariant-alternatives-loop-next
-invariant-alternatives-loop-next g l = (l.from ≤ l.at) × (l.at ≤ length l.p) × Leads l.p l.from l.depth l.at ready opened (Keeps g.T.Assembly.stands l.draft)
+invariant-alternatives-loop-next g l =
+    (l.here.pattern.now ≡ l.fn.from.pattern.now) × (l.fn.from.at ≤ l.here.at) × Leads l.fn.from.pattern.now l.fn.from.at l.depth l.here.at ready opened (Keeps g.T.Assembly.stands l.draft)
 
 abbrev pub decreases-alternatives-loop-next : goal.decreases-alternatives-loop-next
-decreases-alternatives-loop-next g l = length l.p - l.at
+decreases-alternatives-loop-next g l = length l.here.pattern.now - l.here.at

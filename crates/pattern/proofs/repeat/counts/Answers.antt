@@ -1,31 +1,44 @@
-use Rattle.std.proofs.Common.{refl, arith}
+use Rattle.std.proofs.Common.{refl, ◌∙◌, arith}
 use Rattle.std.proofs.lemmas.Bool.{false≢true}
 use Rattle.std.proofs.lemmas.Result.{err_from_is_err_and}
 use Rattle.pattern.proofs.CountWays.{first_refused, after_first, one_count, second_refused, after_second, two_counts}
 use Rattle.pattern.proofs.repeat.counts.Goals as goal
 
-pub returns-in_err-least : goal.returns-in_err-least
-returns-in_err-least c = let p = err_from_is_err_and c.from_residual.result c.from_residual.ensures.1 in record { cases = rw (p.1, p.2) (first_refused _ _ _ c.in_err-least.ensures.cases) }
+pub returns-in_err-least-clause-cases : goal.returns-in_err-least-clause-cases
+returns-in_err-least-clause-cases c = let p = err_from_is_err_and c.from_residual.result c.from_residual.ensures.1 in rw (p.1, p.2) (first_refused _ _ _ c.in_err-least.ensures.cases)
 
-pub returns-then-end-p : goal.returns-then-end-p
-returns-then-end-p c = record { cases = after_first _ _ _ _ _ c.in_ok-least.ensures.cases (λ lt. absurd (omega arith)) (λ lt. absurd (omega arith)) c.badly_written.ensures.value }
+pub returns-in_err-byte-clause-cases : goal.returns-in_err-byte-clause-cases
+returns-in_err-byte-clause-cases c =
+    let p = err_from_is_err_and c.from_residual-in_err-byte.result c.from_residual-in_err-byte.ensures.1 in
+    let (past, is) = rw c.in_ok-least.ensures.same at c.in_err-byte.ensures.cases in
+    rw (p.1, p.2) (after_first _ _ _ _ _ c.in_ok-least.ensures.cases (λ lt. absurd (omega arith)) (λ lt. absurd (omega arith)) is)
 
-pub returns-in_err-most-in-44 : goal.returns-in_err-most-in-44
-returns-in_err-most-in-44 c = let p = err_from_is_err_and c.from_residual-in_err-most-in-44.result c.from_residual-in_err-most-in-44.ensures.1 in record { cases = rw (p.1, p.2) (second_refused _ _ _ _ _ c.in_ok-least.ensures.cases (omega arith) c.in-44.is c.in_err-most-in-44.ensures.cases) }
+pub returns-in_err-most-in-44-clause-cases : goal.returns-in_err-most-in-44-clause-cases
+returns-in_err-most-in-44-clause-cases c =
+    let p = err_from_is_err_and c.from_residual-in_err-most-in-44.result c.from_residual-in_err-most-in-44.ensures.1 in
+    let (lt, is) = rw c.in_ok-least.ensures.same at c.in_ok-byte.ensures.cases in
+    rw (p.1, p.2) (second_refused _ _ _ _ _ c.in_ok-least.ensures.cases lt (is ∙ c.in-44.is) (rw (c.next-in-44.ensures.pattern, c.in_ok-least.ensures.same, c.next-in-44.ensures.at) at c.in_err-most-in-44.ensures.cases))
 
-pub returns-then-not-closes : goal.returns-then-not-closes
-returns-then-not-closes c = record {
-  cases = after_second _ _ _ _ _ _ _ c.in_ok-least.ensures.cases (omega arith) c.in-44.is c.in_ok-most-in-44.ensures.cases
-      (λ lt ends le. false≢true (c.if-not-closes.ensures.cases.1 (lt, ends, le))) c.badly_written-then-not-closes.ensures.value;
-}
+pub returns-then-not-closes-clause-cases : goal.returns-then-not-closes-clause-cases
+returns-then-not-closes-clause-cases c =
+    let (lt, is) = rw c.in_ok-least.ensures.same at c.in_ok-byte.ensures.cases in
+    let last = rw (c.next-in-44.ensures.pattern, c.in_ok-least.ensures.same, c.next-in-44.ensures.at) at c.in_ok-most-in-44.ensures.cases in
+    let closes = rw (c.in_ok-most-in-44.ensures.same, c.next-in-44.ensures.pattern, c.in_ok-least.ensures.same) at c.if-not-closes.ensures.cases.1 in
+    after_second _ _ _ _ _ _ _ c.in_ok-least.ensures.cases lt (is ∙ c.in-44.is) last (λ lt' ends le. false≢true (closes (lt', ends, le))) c.refuse.ensures.value
 
-pub returns-in-125 : goal.returns-in-125
-returns-in-125 c = record { cases = one_count _ _ _ _ c.in_ok-least.ensures.cases (omega arith) c.in-125.is }
+pub returns-in-125-clause-cases : goal.returns-in-125-clause-cases
+returns-in-125-clause-cases c =
+    let (lt, is) = rw c.in_ok-least.ensures.same at c.in_ok-byte.ensures.cases in
+    rw c.next.ensures.at (one_count _ _ _ _ c.in_ok-least.ensures.cases lt (is ∙ c.in-125.is))
 
-pub returns-else-not-closes : goal.returns-else-not-closes
-returns-else-not-closes c =
-    let (lt, ends, le) = c.if-not-closes.ensures.cases.0 refl in
-    record { cases = two_counts _ _ _ _ _ _ c.in_ok-least.ensures.cases (omega arith) c.in-44.is c.in_ok-most-in-44.ensures.cases lt ends le }
+pub returns-else-not-closes-clause-cases : goal.returns-else-not-closes-clause-cases
+returns-else-not-closes-clause-cases c =
+    let (lt, is) = rw c.in_ok-least.ensures.same at c.in_ok-byte.ensures.cases in
+    let last = rw (c.next-in-44.ensures.pattern, c.in_ok-least.ensures.same, c.next-in-44.ensures.at) at c.in_ok-most-in-44.ensures.cases in
+    let (lt', ends, le) = rw (c.in_ok-most-in-44.ensures.same, c.next-in-44.ensures.pattern, c.in_ok-least.ensures.same) at (c.if-not-closes.ensures.cases.0 refl) in
+    rw c.next-in-44-2.ensures.at (two_counts _ _ _ _ _ _ c.in_ok-least.ensures.cases lt (is ∙ c.in-44.is) last lt' ends le)
 
-pub returns-in_default : goal.returns-in_default
-returns-in_default c = record { cases = after_first _ _ _ _ _ c.in_ok-least.ensures.cases (λ lt is. omega arith) (λ lt is. omega arith) c.badly_written-in_default.ensures.value }
+pub returns-in_default-clause-cases : goal.returns-in_default-clause-cases
+returns-in_default-clause-cases c =
+    let (lt, is) = rw c.in_ok-least.ensures.same at c.in_ok-byte.ensures.cases in
+    after_first _ _ _ _ _ c.in_ok-least.ensures.cases (λ lt' is'. omega arith) (λ lt' is'. omega arith) c.refuse-in_default.ensures.value

@@ -1,4 +1,4 @@
-use Rattle.std.proofs.Common.{sym, refl}
+use Rattle.std.proofs.Common.{sym}
 use Rattle.std.proofs.lemmas.Result.{err_from_is_err_and}
 use Rattle.std.proofs.lemmas.Bool.{lt-leb}
 use Rattle.pattern.proofs.SignWays.{class_stops, class_part}
@@ -9,11 +9,12 @@ pub returns-in_err-end : goal.returns-in_err-end
 returns-in_err-end c =
     let p = err_from_is_err_and c.from_residual.result c.from_residual.ensures.1 in
     let (lt, is) = c.requires.bracket in
-    let refused = c.in_err-end.ensures.cases in
-    record { cases = rw (p.1, p.2) (record { none = no_class_lem _ _ lt _ _ is refused; stops = class_stops _ _ lt _ _ is refused.stops }) }
+    let refused = rw (c.next-inside.ensures.pattern, c.next-inside.ensures.at) at c.in_err-end.ensures.cases in
+    record { cases = λ after. rw (p.1, p.2) (record { none = no_class_lem _ _ lt _ _ is refused; stops = class_stops _ _ lt _ _ is refused.stops }) }
 
 pub returns : goal.returns
 returns c =
     let (lt, is) = c.requires.bracket in
-    let read = c.in_ok-end.ensures.cases in
-    record { cases = record { formed = (read.members, read.written, read.some); part = class_part _ _ lt _ is read _ refl; ended = sym (lt-leb _ _ lt) } }
+    let read = rw (c.next-inside.ensures.pattern, c.next-inside.ensures.at) at c.in_ok-end.ensures.cases in
+    let inner = rw (c.next-inside.ensures.pattern, c.next-inside.ensures.at) at c.until.ensures.value in
+    record { cases = λ after. record { formed = (read.members, rw inner read.written, read.some); part = class_part _ _ lt _ is read _ inner; ended = sym (lt-leb _ _ lt) } }

@@ -1,4 +1,4 @@
-use Rattle.std.proofs.Common.{false, sym, refl, subst, arith}
+use Rattle.std.proofs.Common.{false, sym, refl, ◌∙◌, subst, arith}
 use Rattle.std.proofs.lemmas.Result.{err_from_is_err_and}
 use Rattle.std.proofs.lemmas.Bool.{lt-leb, false≢true}
 use Rattle.pattern.specs.Signs.{SignRefused}
@@ -10,23 +10,23 @@ use Rattle.pattern.proofs.sign.counted.Goals as goal
 pub returns-then-not-after : goal.returns-then-not-after
 returns-then-not-after c =
     let (lt, is) = c.requires.brace in
-    record { cases = subst (λ r. SignRefused c.args.p.now c.args.at r c.badly_written.result) (sym c.if-not-after.true) (record { none = none_here _ _ 123 lt is false (λ w shaped. false≢true shaped.0); stops = nothing_to_repeat _ _ lt _ 123 is (λ fr d ctx. refl) c.badly_written.ensures.value }) }
+    record { cases = subst (λ r. SignRefused c.args.from.pattern.now c.args.from.at r c.refuse.result) (sym c.if-not-after.true) (record { none = none_here _ _ 123 lt is false (λ w shaped. false≢true shaped.0); stops = nothing_to_repeat _ _ lt _ 123 is (λ fr d ctx. refl) c.refuse.ensures.value }) }
 
 pub returns-in_err-end : goal.returns-in_err-end
 returns-in_err-end c =
     let p = err_from_is_err_and c.from_residual.result c.from_residual.ensures.1 in
     let (lt, is) = c.requires.brace in
-    let refused = c.in_err-end.ensures.cases in
-    record { cases = rw (p.1, p.2) (subst (λ r. SignRefused c.args.p.now c.args.at r c.in_err-end.field-0.0) (sym c.if-not-after.false) (record { none = no_counts _ _ lt _ is refused; stops = count_stops _ _ lt _ is refused.stops })) }
+    let refused = rw (c.next.ensures.pattern, c.next.ensures.at) at c.in_err-end.ensures.cases in
+    record { cases = rw (p.1, p.2) (subst (λ r. SignRefused c.args.from.pattern.now c.args.from.at r c.in_err-end.field-0.0) (sym c.if-not-after.false) (record { none = no_counts _ _ lt _ is refused; stops = count_stops _ _ lt _ is refused.stops })) }
 
 pub returns : goal.returns
 returns c =
     let (lt, is) = c.requires.brace in
-    let read = c.in_ok-end.ensures.cases in
+    let read = rw (c.next.ensures.pattern, c.next.ensures.at) at c.in_ok-end.ensures.cases in
     record {
       cases = record {
-        formed = (read.words, _, _, counted_is _ _ lt _ _ _ is read, read.counted, c.if-not-after.false);
-        part = slice_part _ _ _ (omega (arith, read.long)) read.within;
+        formed = (read.words, _, _, c.until.ensures.value ∙ counted_is _ _ lt _ _ _ is read, read.counted, c.if-not-after.false);
+        part = rw c.until.ensures.value (slice_part _ _ _ (omega (arith, read.long)) read.within);
         ended = sym (lt-leb _ _ lt);
       };
     }

@@ -1,29 +1,21 @@
-use Rattle.std.proofs.Common.{◌≡◌, ◌+◌, ◌<◌, false, length, get_or, sym, refl, arith}
-use Rattle.std.proofs.lemmas.Bool.{lt-leb}
-use Rattle.pattern.proofs.SignWays.{escape_stops, two_bytes, two_part}
+use Rattle.std.proofs.Common.{◌≡◌, ◌+◌, ◌<◌, false, length, get_or, sym, ap, ◌∙◌, arith}
+use Rattle.pattern.proofs.SignWays.{escape_stops}
 use Rattle.pattern.specs.Characters.{escapable}
+use Rattle.std.proofs.lemmas.Result.{err_from_is_err_and}
 use Rattle.pattern.proofs.SignShapes.{no_escape}
 use Rattle.pattern.proofs.sign.escape.Goals as goal
 
-pub returns-then-at-p : goal.returns-then-at-p
-returns-then-at-p c =
+pub returns-in_err-byte : goal.returns-in_err-byte
+returns-in_err-byte c =
+    let p = err_from_is_err_and c.from_residual.result c.from_residual.ensures.1 in
     let (lt, is) = c.requires.backslash in
-    let past : (c.args.at + 1 < length c.args.p.now) → escapable (get_or c.args.p.now (c.args.at + 1) 0) ≡ false = λ inside. absurd (omega arith) in
-    record { cases = record { none = no_escape _ _ lt _ is past; stops = escape_stops _ _ lt _ _ is past c.badly_written.ensures.value } }
+    let (past, fault) = rw (c.next-escaped.ensures.pattern, c.next-escaped.ensures.at) at c.in_err-byte.ensures.cases in
+    let none : (c.args.from.at + 1 < length c.args.from.pattern.now) → escapable (get_or c.args.from.pattern.now (c.args.from.at + 1) 0) ≡ false = λ inside. absurd (omega arith) in
+    record { cases = λ after. rw (p.1, p.2) (record { none = no_escape _ _ lt _ is none; stops = escape_stops _ _ lt _ _ is none fault }) }
 
 pub returns-then-not-is_escapable : goal.returns-then-not-is_escapable
 returns-then-not-is_escapable c =
     let (lt, is) = c.requires.backslash in
-    let cannot = sym c.if-not-is_escapable.ensures.value in
-    record { cases = record { none = no_escape _ _ lt _ is (λ _. cannot); stops = escape_stops _ _ lt _ _ is (λ _. cannot) c.badly_written-then-not-is_escapable.ensures.value } }
-
-pub returns : goal.returns
-returns c =
-    let (lt, is) = c.requires.backslash in
-    record {
-      cases = record {
-        formed = (_, two_bytes _ _ lt _ _ (omega arith) is refl, sym c.if-not-is_escapable.ensures.value);
-        part = two_part _ _ lt (omega arith);
-        ended = sym (lt-leb _ _ lt);
-      };
-    }
+    let (inside, byte) = rw (c.next-escaped.ensures.pattern, c.next-escaped.ensures.at) at c.in_ok-byte.ensures.cases in
+    let cannot = ap escapable byte ∙ sym c.if-not-is_escapable.ensures.value in
+    record { cases = λ after. record { none = no_escape _ _ lt _ is (λ _. cannot); stops = escape_stops _ _ lt _ _ is (λ _. cannot) (rw c.next-escaped.ensures.at at c.refuse.ensures.value) } }

@@ -21,12 +21,12 @@ returns-in-46 c = record { cases = record { formed = one_byte _ _ c.if-at-p.fals
 pub returns-in-93 : goal.returns-in-93
 returns-in-93 c =
     let lt = c.if-at-p.false in
-    record { cases = record { none = none_here _ _ 93 lt c.in-93.is _ (λ w shaped. shaped); stops = never_here _ _ lt _ _ 93 c.in-93.is refl (λ fr d ctx. refl) c.badly_written.ensures.value } }
+    record { cases = record { none = none_here _ _ 93 lt c.in-93.is _ (λ w shaped. shaped); stops = never_here _ _ lt _ _ 93 c.in-93.is refl (λ fr d ctx. refl) c.refuse.ensures.value } }
 
 pub returns-in-125 : goal.returns-in-125
 returns-in-125 c =
     let lt = c.if-at-p.false in
-    record { cases = record { none = none_here _ _ 125 lt c.in-125.is _ (λ w shaped. shaped); stops = never_here _ _ lt _ _ 125 c.in-125.is refl (λ fr d ctx. refl) c.badly_written-in-125.ensures.value } }
+    record { cases = record { none = none_here _ _ 125 lt c.in-125.is _ (λ w shaped. shaped); stops = never_here _ _ lt _ _ 125 c.in-125.is refl (λ fr d ctx. refl) c.refuse-in-125.ensures.value } }
 
 pub returns-in-42 : goal.returns-in-42
 returns-in-42 c =

@@ -7,8 +7,12 @@ returns-in_err-end g c =
     let p = err_from_is_err_and c.from_residual.result c.from_residual.ensures.1 in
     record { cases = rw (p.1, p.2) (reader_stops _ (bytes_slice _ c.type_inv.bytes) c.if-bytes-gt-LONGEST.false _ c.in_err-end.ensures.cases) }
 
-pub returns-then-end-bytes : goal.returns-then-end-bytes
-returns-then-end-bytes g c = record { cases = left_over _ (bytes_slice _ c.type_inv.bytes) c.if-bytes-gt-LONGEST.false _ _ _ c.in_ok-end.ensures.cases c.if-end-bytes.true c.badly_written.ensures.value }
+pub returns-in-Some : goal.returns-in-Some
+returns-in-Some g c =
+    let (inside, _) = rw c.in_ok-end.ensures.same at c.in-Some.ensures.cases in
+    record { cases = left_over _ (bytes_slice _ c.type_inv.bytes) c.if-bytes-gt-LONGEST.false _ _ _ c.in_ok-end.ensures.cases inside c.refuse.ensures.value }
 
-pub returns : goal.returns
-returns g c = record { cases = assembled _ (bytes_slice _ c.type_inv.bytes) c.if-bytes-gt-LONGEST.false g.T.Assembly.stands _ _ c.in_ok-end.ensures.cases c.if-end-bytes.false }
+pub returns-in-None : goal.returns-in-None
+returns-in-None g c =
+    let past = rw c.in_ok-end.ensures.same at c.in-None.ensures.cases in
+    record { cases = assembled _ (bytes_slice _ c.type_inv.bytes) c.if-bytes-gt-LONGEST.false g.T.Assembly.stands _ _ c.in_ok-end.ensures.cases past }
