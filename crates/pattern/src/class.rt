@@ -55,25 +55,13 @@ impl Progress {
     fn finished<T: Gathering>(self, found: &T, byte: u8) -> T
         ensures value { (rs : List Range) → T.Gathering.holds found.now rs → T.Gathering.holds result (rs ++ done_by self byte) }
     {
-        match self {
-            Progress::Empty => *found,
-            Progress::Between => *found,
-            Progress::Escape => *found,
-            Progress::Member(first) => {
-                if byte == b'-' {
-                    *found
-                } else {
-                    found.with(first, first)
-                }
-            }
-            Progress::Dash(first) => {
-                if byte == b'\\' {
-                    *found
-                } else {
-                    found.with(first, byte)
-                }
-            }
-            Progress::DashEscape(first) => found.with(first, byte),
+        match (self, byte as char) {
+            (Progress::Member(_), '-') => *found,
+            (Progress::Member(first), _) => found.with(first, first),
+            (Progress::Dash(_), '\\') => *found,
+            (Progress::Dash(first), _) => found.with(first, byte),
+            (Progress::DashEscape(first), _) => found.with(first, byte),
+            (Progress::Empty | Progress::Between | Progress::Escape, _) => *found,
         }
     }
 
@@ -84,27 +72,22 @@ impl Progress {
         match (*self, byte as char) {
             (Progress::Empty, '\\') => self.go(Progress::Escape),
             (Progress::Empty, _) if is_itself(byte) => self.go(Progress::Member(byte)),
-            (Progress::Empty, _) => None,
             (Progress::Between, ']') => Some(Taken::Ended),
             (Progress::Between, '\\') => self.go(Progress::Escape),
             (Progress::Between, _) if is_itself(byte) => self.go(Progress::Member(byte)),
-            (Progress::Between, _) => None,
             (Progress::Member(_), ']') => Some(Taken::Ended),
             (Progress::Member(first), '-') => self.go(Progress::Dash(first)),
             (Progress::Member(_), '\\') => self.go(Progress::Escape),
             (Progress::Member(_), _) if is_itself(byte) => self.go(Progress::Member(byte)),
-            (Progress::Member(_), _) => None,
             (Progress::Dash(first), '\\') if first <= b'}' => self.go(Progress::DashEscape(first)),
             (Progress::Dash(first), _) if first <= byte && is_itself(byte) => self.go(
                 Progress::Between,
             ),
-            (Progress::Dash(_), _) => None,
             (Progress::Escape, _) if is_escapable(byte) => self.go(Progress::Member(byte)),
-            (Progress::Escape, _) => None,
             (Progress::DashEscape(first), _) if first <= byte && is_escapable(byte) => self.go(
                 Progress::Between,
             ),
-            (Progress::DashEscape(_), _) => None,
+            _ => None,
         }
     }
 }

@@ -4,8 +4,7 @@ ghost use Rattle.std.specs.Prelude.{◌≡◌, ◌+◌, ◌<◌, ◌≤◌, leng
 ghost use Rattle.fault.specs.declared.Refusal.TheVariants.{BadlyWritten};
 ghost use Rattle.pattern.specs.Refusals.{refused};
 
-use crate::refusal::badly_written;
-use fault::Fault;
+use fault::{Fault, Layer, Refusal};
 
 #[derive(Clone, Copy)]
 pub struct Cursor<'a> {
@@ -61,6 +60,6 @@ impl<'a> Cursor<'a> {
     pub(crate) fn refuse(self) -> Fault
         ensures value { result ≡ refused BadlyWritten self.entry.at }
     {
-        badly_written(self.at)
+        Layer::Pattern.fault(Refusal::BadlyWritten, self.at)
     }
 }

@@ -10,7 +10,6 @@ pub mod examples;
 pub mod gathering;
 mod reader;
 pub mod record;
-mod refusal;
 mod repeat;
 pub mod sign;
 mod verdict;

@@ -5,7 +5,6 @@ ghost use Rattle.pattern.specs.Refusals.{refused};
 ghost use Rattle.pattern.specs.Signs.{text, Handed, SignRefused};
 
 use crate::cursor::Cursor;
-use crate::refusal::badly_written;
 use crate::{class, repeat};
 use fault::Fault;
 
@@ -50,14 +49,10 @@ impl Sign<'_> {
 }
 
 // A repeat stands only after an atom that has none yet.
-fn repeat_sign(sign: Sign, at: usize, after: bool) -> Result<Sign, Fault>
-    ensures cases { MatchResult result (λ s. (s ≡ sign.entry) × (after ≡ true)) (λ f. (f ≡ refused BadlyWritten at) × (after ≡ false)) }
+fn repeat_sign<'a>(sign: Sign<'a>, from: Cursor, after: bool) -> Result<Sign<'a>, Fault>
+    ensures cases { MatchResult result (λ s. (s ≡ sign.entry) × (after ≡ true)) (λ f. (f ≡ refused BadlyWritten from.entry.at) × (after ≡ false)) }
 {
-    if after {
-        Ok(sign)
-    } else {
-        Err(badly_written(at))
-    }
+    if after { Ok(sign) } else { Err(from.refuse()) }
 }
 
 fn counted(from: Cursor, after: bool) -> Result<Sign, Fault>
@@ -102,9 +97,9 @@ pub fn sign_at(p: &[u8], at: usize, after: bool) -> Result<Sign, Fault>
     let byte = &p[at..at + 1];
     match p[at] as char {
         '|' => Ok(Sign::Bar(byte)),
-        '*' => repeat_sign(Sign::Star(byte), at, after),
-        '+' => repeat_sign(Sign::Plus(byte), at, after),
-        '?' => repeat_sign(Sign::Question(byte), at, after),
+        '*' => repeat_sign(Sign::Star(byte), from, after),
+        '+' => repeat_sign(Sign::Plus(byte), from, after),
+        '?' => repeat_sign(Sign::Question(byte), from, after),
         '(' => Ok(Sign::Open(byte)),
         ')' => Ok(Sign::Close(byte)),
         '[' => class_sign(from),
