@@ -1,3 +1,4 @@
+pub mod Exits
 pub mod Chars
 pub mod Runs
 pub mod ClassRuns

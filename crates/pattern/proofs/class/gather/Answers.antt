@@ -1,5 +1,5 @@
 use Rattle.std.proofs.Common.{length, refl, ap, ◌∙◌, arith}
-use Rattle.std.proofs.lemmas.Result.{err_from_is_err_and}
+use Rattle.pattern.proofs.Exits.{handed_on}
 use Rattle.pattern.proofs.ClassLoop.{far_none, far_more, far_ended, far_refused, far_all}
 use Rattle.pattern.proofs.class.gather.Goals as goal
 
@@ -8,17 +8,15 @@ loop-byte-init g c = (refl, far_none _ _ _ c.none-found.ensures.value)
 
 pub returns-in_err-byte-clause-cases : goal.returns-in_err-byte-clause-cases
 returns-in_err-byte-clause-cases g c =
-    let p = err_from_is_err_and c.from_residual.result c.from_residual.ensures.1 in
     let (same, far) = c.loop-byte.invariant in
     let (past, is) = rw same at c.in_err-byte.ensures.cases in
-    rw (p.1, p.2) (far_all _ _ _ _ _ _ far past (omega (arith, c.loop-byte.here.within, ap length same)) is)
+    handed_on _ _ _ _ c.from_residual.ensures.1 (far_all _ _ _ _ _ _ far past (omega (arith, c.loop-byte.here.within, ap length same)) is)
 
 pub returns-in_err-ok_or-clause-cases : goal.returns-in_err-ok_or-clause-cases
 returns-in_err-ok_or-clause-cases g c =
-    let p = err_from_is_err_and c.from_residual-in_err-ok_or.result c.from_residual-in_err-ok_or.ensures.1 in
     let (same, far) = c.loop-byte.invariant in
     let (lt, is) = rw same at c.in_ok-byte.ensures.cases in
-    rw (p.1, p.2) (far_refused _ _ _ _ _ _ lt is (omega arith) far c.take.new.self _ (rw c.in_err-ok_or.ensures.ok_part at c.take.ensures.cases) (grind arith))
+    handed_on _ _ _ _ c.from_residual-in_err-ok_or.ensures.1 (far_refused _ _ _ _ _ _ lt is (omega arith) far c.take.new.self _ (rw c.in_err-ok_or.ensures.ok_part at c.take.ensures.cases) (grind arith))
 
 pub loop-byte-preserved : goal.loop-byte-preserved
 loop-byte-preserved g c =

@@ -1,6 +1,6 @@
 use Rattle.std.proofs.Common.{rules, ◌≡◌, suc, ◌-◌, length, get_or, refl, ap, subst, arith}
 use Rattle.pattern.specs.Expressions.{one, byte}
-use Rattle.std.proofs.lemmas.Result.{err_from_is_err_and}
+use Rattle.pattern.proofs.Exits.{handed_on}
 use Rattle.std.proofs.lemmas.Option.{MatchOption-at_none}
 use Rattle.pattern.specs.Automaton.{ready, opened}
 use Rattle.pattern.proofs.Drafting.{keeps_waits}
@@ -14,9 +14,8 @@ alternatives-loop-next-init g t c = (refl, omega arith, record { mode = ready; f
 
 pub alternatives-returns-in_err-next-clause-cases : goal.alternatives-returns-in_err-next-clause-cases
 alternatives-returns-in_err-next-clause-cases g t c =
-    let p = err_from_is_err_and c.from_residual.result c.from_residual.ensures.1 in
     let (same, forward, walk) = c.loop-next.invariant in
-    rw (p.1, p.2) (walk_stops _ _ _ _ _ _ walk (rw same at c.in_err-next.ensures.cases))
+    handed_on _ _ _ _ c.from_residual.ensures.1 (walk_stops _ _ _ _ _ _ walk (rw same at c.in_err-next.ensures.cases))
 
 pub alternatives-returns-clause-cases : goal.alternatives-returns-clause-cases
 alternatives-returns-clause-cases g t c =
@@ -29,17 +28,15 @@ group-returns-then-depth-eq0-clause-cases g t c = too_deep _ _ c.requires.paren.
 
 pub group-returns-in_err-end-clause-cases : goal.group-returns-in_err-end-clause-cases
 group-returns-in_err-end-clause-cases g t c =
-    let p = err_from_is_err_and c.from_residual.result c.from_residual.ensures.1 in
     let deep : c.args.depth ≡ suc (c.args.depth - 1) = omega arith in
-    rw (p.1, p.2) (inner_stops _ _ c.requires.paren.0 c.requires.paren.1 _ _ _ deep (rw (c.next.ensures.pattern, c.next.ensures.at) at c.in_err-end.ensures.cases))
+    handed_on _ _ _ _ c.from_residual.ensures.1 (inner_stops _ _ c.requires.paren.0 c.requires.paren.1 _ _ _ deep (rw (c.next.ensures.pattern, c.next.ensures.at) at c.in_err-end.ensures.cases))
 
 pub group-returns-in_err-byte-clause-cases : goal.group-returns-in_err-byte-clause-cases
 group-returns-in_err-byte-clause-cases g t c =
-    let p = err_from_is_err_and c.from_residual-in_err-byte.result c.from_residual-in_err-byte.ensures.1 in
     let deep : c.args.depth ≡ suc (c.args.depth - 1) = omega arith in
     let read = rw (c.next.ensures.pattern, c.next.ensures.at) at c.in_ok-end.ensures.cases in
     let (past, is) = rw (c.in_ok-end.ensures.same, c.next.ensures.pattern) at c.in_err-byte.ensures.cases in
-    rw (p.1, p.2) (unfinished _ _ c.requires.paren.0 c.requires.paren.1 _ _ _ _ _ deep read past is)
+    handed_on _ _ _ _ c.from_residual-in_err-byte.ensures.1 (unfinished _ _ c.requires.paren.0 c.requires.paren.1 _ _ _ _ _ deep read past is)
 
 pub group-returns-clause-cases : goal.group-returns-clause-cases
 group-returns-clause-cases g t c =
@@ -50,14 +47,12 @@ group-returns-clause-cases g t c =
 
 pub step-returns-in_err-sign-clause-cases : goal.step-returns-in_err-sign-clause-cases
 step-returns-in_err-sign-clause-cases g t c =
-    let p = err_from_is_err_and c.from_residual.result c.from_residual.ensures.1 in
-    rw (p.1, p.2) (sign_stops _ _ _ _ _ (keeps_waits g.T.Assembly.stands c.args.draft.now c.is_some.ensures) _ c.in_err-sign.ensures.cases.stops)
+    handed_on _ _ _ _ c.from_residual.ensures.1 (sign_stops _ _ _ _ _ (keeps_waits g.T.Assembly.stands c.args.draft.now c.is_some.ensures) _ c.in_err-sign.ensures.cases.stops)
 
 pub step-returns-in_err-end-in-Open-clause-cases : goal.step-returns-in_err-end-in-Open-clause-cases
 step-returns-in_err-end-in-Open-clause-cases g t c =
-    let p = err_from_is_err_and c.from_residual-in_err-end-in-Open.result c.from_residual-in_err-end-in-Open.ensures.1 in
     let (lt, is) = begun _ _ _ _ _ 40 c.in_ok-sign.ensures.cases c.in-Open.is refl (λ f. f) in
-    rw (p.1, p.2) (group_stops _ _ _ _ _ (keeps_waits g.T.Assembly.stands c.args.draft.now c.is_some.ensures) _ _ is c.in_err-end-in-Open.ensures.cases)
+    handed_on _ _ _ _ c.from_residual-in_err-end-in-Open.ensures.1 (group_stops _ _ _ _ _ (keeps_waits g.T.Assembly.stands c.args.draft.now c.is_some.ensures) _ _ is c.in_err-end-in-Open.ensures.cases)
 
 pub step-returns-in_ok-end-in-Open-clause-cases : goal.step-returns-in_ok-end-in-Open-clause-cases
 step-returns-in_ok-end-in-Open-clause-cases g t c =
@@ -66,8 +61,7 @@ step-returns-in_ok-end-in-Open-clause-cases g t c =
 
 pub step-returns-in_err-least-in-Counted-clause-cases : goal.step-returns-in_err-least-in-Counted-clause-cases
 step-returns-in_err-least-in-Counted-clause-cases g t c =
-    let p = err_from_is_err_and c.from_residual-in_err-least-in-Counted.result c.from_residual-in_err-least-in-Counted.ensures.1 in
-    rw (p.1, p.2) (counted_refused _ _ _ _ _ (keeps_waits g.T.Assembly.stands c.args.draft.now c.is_some.ensures) _ _ c.in_ok-sign.ensures.cases c.in-Counted.is _ (rw (c.next-in-Counted.ensures.pattern, c.next-in-Counted.ensures.at) at c.in_err-least-in-Counted.ensures.cases).stops)
+    handed_on _ _ _ _ c.from_residual-in_err-least-in-Counted.ensures.1 (counted_refused _ _ _ _ _ (keeps_waits g.T.Assembly.stands c.args.draft.now c.is_some.ensures) _ _ c.in_ok-sign.ensures.cases c.in-Counted.is _ (rw (c.next-in-Counted.ensures.pattern, c.next-in-Counted.ensures.at) at c.in_err-least-in-Counted.ensures.cases).stops)
 
 pub step-returns-in_ok-least-in-Counted-clause-cases : goal.step-returns-in_ok-least-in-Counted-clause-cases
 step-returns-in_ok-least-in-Counted-clause-cases g t c = counted_of _ _ _ _ _ (keeps_waits g.T.Assembly.stands c.args.draft.now c.is_some.ensures) _ _ c.in_ok-sign.ensures.cases c.in-Counted.is _ _ _ _ (rw (c.next-in-Counted.ensures.pattern, c.next-in-Counted.ensures.at) at c.in_ok-least-in-Counted.ensures.cases) (λ le. c.repeated-in-Counted.ensures.value _ (λ x y f met st. search rules))
@@ -95,8 +89,7 @@ step-returns-in-Question-clause-cases g t c = rw c.skip-end.ensures.at (opt_of _
 
 pub step-returns-in_err-close-in-Class-clause-cases : goal.step-returns-in_err-close-in-Class-clause-cases
 step-returns-in_err-close-in-Class-clause-cases g t c =
-    let p = err_from_is_err_and c.from_residual-in_err-close-in-Class.result c.from_residual-in_err-close-in-Class.ensures.1 in
-    rw (p.1, p.2) (class_refused _ _ _ _ _ (keeps_waits g.T.Assembly.stands c.args.draft.now c.is_some.ensures) _ _ c.in_ok-sign.ensures.cases c.in-Class.is _ (rw (c.next.ensures.pattern, c.next.ensures.at) at c.in_err-close-in-Class.ensures.cases).stops)
+    handed_on _ _ _ _ c.from_residual-in_err-close-in-Class.ensures.1 (class_refused _ _ _ _ _ (keeps_waits g.T.Assembly.stands c.args.draft.now c.is_some.ensures) _ _ c.in_ok-sign.ensures.cases c.in-Class.is _ (rw (c.next.ensures.pattern, c.next.ensures.at) at c.in_err-close-in-Class.ensures.cases).stops)
 
 pub step-returns-in_ok-close-in-Class-clause-cases : goal.step-returns-in_ok-close-in-Class-clause-cases
 step-returns-in_ok-close-in-Class-clause-cases g t c =

@@ -1,23 +1,21 @@
 use Rattle.std.proofs.Common.{refl, ◌∙◌, arith}
 use Rattle.std.proofs.lemmas.Bool.{false≢true}
-use Rattle.std.proofs.lemmas.Result.{err_from_is_err_and}
+use Rattle.pattern.proofs.Exits.{handed_on}
 use Rattle.pattern.proofs.CountWays.{first_refused, after_first, one_count, second_refused, after_second, two_counts}
 use Rattle.pattern.proofs.repeat.counts.Goals as goal
 
 pub returns-in_err-least-clause-cases : goal.returns-in_err-least-clause-cases
-returns-in_err-least-clause-cases c = let p = err_from_is_err_and c.from_residual.result c.from_residual.ensures.1 in rw (p.1, p.2) (first_refused _ _ _ c.in_err-least.ensures.cases)
+returns-in_err-least-clause-cases c = handed_on _ _ _ _ c.from_residual.ensures.1 (first_refused _ _ _ c.in_err-least.ensures.cases)
 
 pub returns-in_err-byte-clause-cases : goal.returns-in_err-byte-clause-cases
 returns-in_err-byte-clause-cases c =
-    let p = err_from_is_err_and c.from_residual-in_err-byte.result c.from_residual-in_err-byte.ensures.1 in
     let (past, is) = rw c.in_ok-least.ensures.same at c.in_err-byte.ensures.cases in
-    rw (p.1, p.2) (after_first _ _ _ _ _ c.in_ok-least.ensures.cases (λ lt. absurd (omega arith)) (λ lt. absurd (omega arith)) is)
+    handed_on _ _ _ _ c.from_residual-in_err-byte.ensures.1 (after_first _ _ _ _ _ c.in_ok-least.ensures.cases (λ lt. absurd (omega arith)) (λ lt. absurd (omega arith)) is)
 
 pub returns-in_err-most-in-44-clause-cases : goal.returns-in_err-most-in-44-clause-cases
 returns-in_err-most-in-44-clause-cases c =
-    let p = err_from_is_err_and c.from_residual-in_err-most-in-44.result c.from_residual-in_err-most-in-44.ensures.1 in
     let (lt, is) = rw c.in_ok-least.ensures.same at c.in_ok-byte.ensures.cases in
-    rw (p.1, p.2) (second_refused _ _ _ _ _ c.in_ok-least.ensures.cases lt (is ∙ c.in-44.is) (rw (c.next-in-44.ensures.pattern, c.in_ok-least.ensures.same, c.next-in-44.ensures.at) at c.in_err-most-in-44.ensures.cases))
+    handed_on _ _ _ _ c.from_residual-in_err-most-in-44.ensures.1 (second_refused _ _ _ _ _ c.in_ok-least.ensures.cases lt (is ∙ c.in-44.is) (rw (c.next-in-44.ensures.pattern, c.in_ok-least.ensures.same, c.next-in-44.ensures.at) at c.in_err-most-in-44.ensures.cases))
 
 pub returns-then-not-closes-clause-cases : goal.returns-then-not-closes-clause-cases
 returns-then-not-closes-clause-cases c =

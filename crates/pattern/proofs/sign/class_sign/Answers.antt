@@ -1,5 +1,5 @@
 use Rattle.std.proofs.Common.{sym}
-use Rattle.std.proofs.lemmas.Result.{err_from_is_err_and}
+use Rattle.pattern.proofs.Exits.{handed_on}
 use Rattle.std.proofs.lemmas.Bool.{lt-leb}
 use Rattle.pattern.proofs.SignWays.{class_stops, class_part}
 use Rattle.pattern.proofs.SignShapes.{no_class_lem}
@@ -7,10 +7,9 @@ use Rattle.pattern.proofs.sign.class_sign.Goals as goal
 
 pub returns-in_err-end : goal.returns-in_err-end
 returns-in_err-end c =
-    let p = err_from_is_err_and c.from_residual.result c.from_residual.ensures.1 in
     let (lt, is) = c.requires.bracket in
     let refused = rw (c.next-inside.ensures.pattern, c.next-inside.ensures.at) at c.in_err-end.ensures.cases in
-    record { cases = λ after. rw (p.1, p.2) (record { none = no_class_lem _ _ lt _ _ is refused; stops = class_stops _ _ lt _ _ is refused.stops }) }
+    record { cases = λ after. handed_on _ _ _ _ c.from_residual.ensures.1 (record { none = no_class_lem _ _ lt _ _ is refused; stops = class_stops _ _ lt _ _ is refused.stops }) }
 
 pub returns : goal.returns
 returns c =

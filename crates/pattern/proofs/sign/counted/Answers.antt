@@ -1,5 +1,5 @@
 use Rattle.std.proofs.Common.{false, sym, refl, ◌∙◌, subst, arith}
-use Rattle.std.proofs.lemmas.Result.{err_from_is_err_and}
+use Rattle.pattern.proofs.Exits.{handed_on}
 use Rattle.std.proofs.lemmas.Bool.{lt-leb, false≢true}
 use Rattle.pattern.specs.Signs.{SignRefused}
 use Rattle.pattern.proofs.Slices.{slice_part}
@@ -14,10 +14,9 @@ returns-then-not-after c =
 
 pub returns-in_err-end : goal.returns-in_err-end
 returns-in_err-end c =
-    let p = err_from_is_err_and c.from_residual.result c.from_residual.ensures.1 in
     let (lt, is) = c.requires.brace in
     let refused = rw (c.next.ensures.pattern, c.next.ensures.at) at c.in_err-end.ensures.cases in
-    record { cases = rw (p.1, p.2) (subst (λ r. SignRefused c.args.from.pattern.now c.args.from.at r c.in_err-end.field-0.0) (sym c.if-not-after.false) (record { none = no_counts _ _ lt _ is refused; stops = count_stops _ _ lt _ is refused.stops })) }
+    record { cases = handed_on _ _ _ _ c.from_residual.ensures.1 (subst (λ r. SignRefused c.args.from.pattern.now c.args.from.at r c.in_err-end.field-0.0) (sym c.if-not-after.false) (record { none = no_counts _ _ lt _ is refused; stops = count_stops _ _ lt _ is refused.stops })) }
 
 pub returns : goal.returns
 returns c =

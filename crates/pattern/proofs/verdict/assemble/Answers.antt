@@ -1,11 +1,10 @@
-use Rattle.std.proofs.lemmas.Result.{err_from_is_err_and}
+use Rattle.pattern.proofs.Exits.{handed_on}
 use Rattle.pattern.proofs.Outcomes.{bytes_slice, reader_stops, left_over, assembled}
 use Rattle.pattern.proofs.verdict.assemble.Goals as goal
 
 pub returns-in_err-end : goal.returns-in_err-end
 returns-in_err-end g c =
-    let p = err_from_is_err_and c.from_residual.result c.from_residual.ensures.1 in
-    record { cases = rw (p.1, p.2) (reader_stops _ (bytes_slice _ c.type_inv.bytes) c.if-bytes-gt-LONGEST.false _ c.in_err-end.ensures.cases) }
+    record { cases = handed_on _ _ _ _ c.from_residual.ensures.1 (reader_stops _ (bytes_slice _ c.type_inv.bytes) c.if-bytes-gt-LONGEST.false _ c.in_err-end.ensures.cases) }
 
 pub returns-in-Some : goal.returns-in-Some
 returns-in-Some g c =
