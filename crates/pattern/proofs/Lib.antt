@@ -18,7 +18,6 @@ pub mod ClassWays
 pub mod ClassDone
 pub mod ClassLoop
 pub mod SignWays
-pub mod Caps
 pub mod Drafting
 pub mod Walking
 pub mod Groups

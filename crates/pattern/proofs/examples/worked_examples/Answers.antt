@@ -1,6 +1,5 @@
-use Rattle.std.proofs.Common.{refl}
 use Rattle.pattern.proofs.Worked.{examples}
 use Rattle.pattern.proofs.examples.worked_examples.Goals as goal
 
-pub returns : goal.returns
-returns c = record { value = refl; stand = examples }
+pub returns-clause-stand : goal.returns-clause-stand
+returns-clause-stand c = examples

@@ -6,18 +6,6 @@ use Rattle.pattern.proofs.SignWays.{one_byte, one_part, never_here, nothing_to_r
 use Rattle.pattern.proofs.SignShapes.{none_here}
 use Rattle.pattern.proofs.sign.sign_at.Goals as goal
 
-pub returns-in-124 : goal.returns-in-124
-returns-in-124 c = record { cases = record { formed = one_byte _ _ c.if-at-p.false _ c.in-124.is; part = one_part _ _ c.if-at-p.false; ended = sym (lt-leb _ _ c.if-at-p.false) } }
-
-pub returns-in-40 : goal.returns-in-40
-returns-in-40 c = record { cases = record { formed = one_byte _ _ c.if-at-p.false _ c.in-40.is; part = one_part _ _ c.if-at-p.false; ended = sym (lt-leb _ _ c.if-at-p.false) } }
-
-pub returns-in-41 : goal.returns-in-41
-returns-in-41 c = record { cases = record { formed = one_byte _ _ c.if-at-p.false _ c.in-41.is; part = one_part _ _ c.if-at-p.false; ended = sym (lt-leb _ _ c.if-at-p.false) } }
-
-pub returns-in-46 : goal.returns-in-46
-returns-in-46 c = record { cases = record { formed = one_byte _ _ c.if-at-p.false _ c.in-46.is; part = one_part _ _ c.if-at-p.false; ended = sym (lt-leb _ _ c.if-at-p.false) } }
-
 pub returns-in-93 : goal.returns-in-93
 returns-in-93 c =
     let lt = c.if-at-p.false in
