@@ -1,5 +1,6 @@
 -- The automaton reads each well-written class. Assumes nothing.
 use Rattle.std.proofs.Common.{◌≡◌, ℕ, ◌<◌, ◌≤◌, Bool, true, false, ◌&&◌, leb, List, [], ◌∷◌, ◌++◌, length, sym, refl, ap, ◌∙◌, append_assoc, arith}
+use Rattle.std.proofs.lemmas.List.{length-append}
 use Rattle.std.proofs.lemmas.Bool.{true≢false, le-leb, cond-true, and_from}
 use Rattle.pattern.specs.Characters.{ClassKind, ends, slash, hyphen, barred, itself, class_kind, escapable}
 use Rattle.pattern.specs.Expressions.{Range, one}
@@ -7,6 +8,9 @@ use Rattle.pattern.specs.Grammar.{ClassByte, bare, escaped, Member, single, rang
 use Rattle.pattern.specs.Automaton.{Frame, State, state, after, in_class, fresh, in_escape, member, dashed, dashed_escape, ClassState, class_next, of_class, inside, verdict}
 use Rattle.pattern.proofs.Chars.{escapable_low}
 use Rattle.pattern.proofs.Runs.{verdict_alive, verdict_is, verdict_end, onward}
+
+pub push_some : (rs : List Range) (r : Range) → 0 < length (rs ++ r ∷ [])
+push_some rs r = rw length-append (omega arith)
 
 abbrev is_hyphen : ClassKind → Bool
 is_hyphen ends = false

@@ -1,22 +1,19 @@
 -- A byte that goes on in a class adds to the text that was read of it. Assumes nothing.
 use Rattle.std.proofs.Common.{◌≡◌, ℕ, ◌<◌, ◌&&◌, leb, List, [], ◌∷◌, ◌++◌, length, sym, refl, ap, ◌∙◌, subst, append_assoc, append-nil, arith}
 use Rattle.std.proofs.lemmas.Bool.{cond_both, leb-true, and_parts}
-use Rattle.std.proofs.lemmas.List.{length-append}
 use Rattle.pattern.specs.Characters.{ClassKind, ends, slash, hyphen, barred, itself, class_kind, escapable}
 use Rattle.pattern.specs.Expressions.{Range}
 use Rattle.pattern.specs.Grammar.{ClassByte, bare, escaped, single, range, Members, more}
 use Rattle.pattern.specs.Automaton.{ClassState, fresh, in_escape, member, dashed, dashed_escape, ClassNext, no_class, inside, finished, class_next}
 use Rattle.pattern.proofs.Chars.{InClass as Told, in_class_lem}
 use Rattle.pattern.proofs.Seen.{InClass, Class}
+use Rattle.pattern.proofs.ClassRuns.{push_some}
 
 -- what the class is after one byte more: still open, or whole but for its last byte
 abbrev pub Goes : ClassNext → List ℕ → ℕ → Type 0
 Goes no_class t b = Unit {0}
 Goes (inside rs c) t b = Class rs c (t ++ b ∷ [])
 Goes (finished rs) t b = (b ≡ 93) × (0 < length rs) × Members t rs
-
-push_some : (rs : List Range) (r : Range) → 0 < length (rs ++ r ∷ [])
-push_some rs r = rw length-append (omega arith)
 
 goes : (b : ℕ) → b < 256 → (k : ClassKind) → class_kind b ≡ k → Told k b → (rs : List Range) (c : ClassState) (v y : List ℕ) → Members v rs → InClass c y → Goes (class_next k b rs c) (v ++ y) b
 goes b small ends is told [] fresh v y ms part = tt

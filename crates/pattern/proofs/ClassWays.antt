@@ -1,18 +1,14 @@
 -- How the class reader's state follows the automaton's, way by way. Assumes nothing.
-use Rattle.std.proofs.Common.{◌≡◌, ℕ, ◌<◌, ◌≤◌, true, ◌&&◌, leb, List, [], ◌∷◌, ◌++◌, length, Option, Some, sym, refl, ap, ◌∙◌, subst, arith}
-use Rattle.std.proofs.lemmas.List.{length-append}
+use Rattle.std.proofs.Common.{◌≡◌, ℕ, ◌≤◌, true, ◌&&◌, leb, [], ◌∷◌, ◌++◌, Option, Some, sym, refl, ap, ◌∙◌, subst, arith}
 use Rattle.std.proofs.lemmas.Bool.{cond-true, le-leb, and_from, true≢false}
 use Rattle.pattern.specs.declared.class.Progress.{Progress}
-use Rattle.pattern.specs.declared.class.Progress.TheVariants.{Empty, Between, Member, Dash, Escape, DashEscape}
+use Rattle.pattern.specs.declared.class.Progress.TheVariants.{Between, Member, Dash, Escape, DashEscape}
 use Rattle.pattern.specs.declared.class.Taken.{Taken}
 use Rattle.pattern.specs.declared.class.Taken.TheVariants.{Inside, Ended}
 use Rattle.pattern.specs.Characters.{ClassKind, ends, slash, hyphen, barred, itself, kind_is_itself, class_kind, escapable}
-use Rattle.pattern.specs.Expressions.{Range}
 use Rattle.pattern.specs.Automaton.{class_next, fresh, member, dashed}
 use Rattle.pattern.specs.Classes.{Follows}
-
-push_some : (rs : List Range) (r : Range) → 0 < length (rs ++ r ∷ [])
-push_some rs r = rw length-append (omega arith)
+use Rattle.pattern.proofs.ClassRuns.{push_some}
 
 -- a byte with no office in a class
 pub itself_is : (k : ClassKind) → true ≡ kind_is_itself k → k ≡ itself
@@ -33,14 +29,8 @@ ends_between (r ∷ rs) some = (r ∷ rs, refl)
 pub between_slash : Follows Between 92 (Some Inside) Escape
 between_slash rs some = (rs, refl, tt)
 
-pub empty_slash : Follows Empty 92 (Some Inside) Escape
-empty_slash rs none = (rs, refl, tt)
-
 pub member_slash : (a : ℕ) → Follows (Member a) 92 (Some Inside) Escape
 member_slash a rs _ = (rs ++ (a, a) ∷ [], refl, tt)
-
-pub empty_byte : (b : ℕ) → class_kind b ≡ itself → Follows Empty b (Some Inside) (Member b)
-empty_byte b is rs _ = (rs, ap (λ k. class_next k b rs fresh) is, tt)
 
 pub between_byte : (b : ℕ) → class_kind b ≡ itself → Follows Between b (Some Inside) (Member b)
 between_byte b is rs _ = (rs, ap (λ k. class_next k b rs fresh) is, tt)

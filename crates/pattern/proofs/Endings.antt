@@ -1,6 +1,5 @@
 -- From each state that some text leads to, bytes can follow that end a well-written pattern. Assumes nothing.
 use Rattle.std.proofs.Common.{◌≡◌, ℕ, suc, ◌+◌, ◌-◌, ◌*◌, ◌<◌, ◌≤◌, leb, List, [], ◌∷◌, ◌++◌, length, decimal, sym, refl, ap, ◌∙◌, subst, ⊎_elim, arith}
-use Rattle.std.proofs.lemmas.List.{length-append}
 use Rattle.std.proofs.lemmas.Fmt.{decimal_digit}
 use Rattle.std.proofs.lemmas.Bool.{cond-true, le-leb, and_from, cases_lt}
 use Rattle.pattern.specs.Expressions.{Range, Regex, one, byte, counted}
@@ -8,7 +7,7 @@ use Rattle.pattern.specs.Grammar.{ClassByte, bare, escaped}
 use Rattle.pattern.specs.Automaton.{Frame, State, state, ready, after, escape, in_class, in_count, ClassState, fresh, in_escape, member, dashed, dashed_escape, CountState, awaiting, digits, Stage, least, most, bound, of_class, of_count, good, closed, push, verdict}
 use Rattle.pattern.proofs.Chars.{escapable_low}
 use Rattle.pattern.proofs.Runs.{NoRepeat, settles, verdict_alive, verdict_end}
-use Rattle.pattern.proofs.ClassRuns.{ends_class}
+use Rattle.pattern.proofs.ClassRuns.{push_some, ends_class}
 use Rattle.pattern.proofs.CountRuns.{number_runs, goes_on, decimal_two}
 use Rattle.pattern.proofs.Seen.{Class, Before, Count, Seen}
 use Rattle.pattern.proofs.Sounds.{Bytes}
@@ -45,9 +44,6 @@ decimal_bytes n top v bytes =
 byte_small : {w : List ℕ} {b : ℕ} → ClassByte w b → b < 256
 byte_small (bare small is) = small
 byte_small (escaped {b} is) = omega (arith, escapable_low b is)
-
-push_some : (rs : List Range) (r : Range) → 0 < length (rs ++ r ∷ [])
-push_some rs r = rw length-append (omega arith)
 
 module _ (fr : Frame) (d : ℕ) (ctx : List Frame) where
   class_closes : (rs : List Range) → 0 < length rs → Ending (state (in_class rs fresh) fr d ctx)

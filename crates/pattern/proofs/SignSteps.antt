@@ -1,9 +1,8 @@
 -- The step of the recursive reader over each sign that was handed out. Assumes nothing.
-use Rattle.std.proofs.Common.{◌≡◌, ℕ, ◌+◌, ◌-◌, ◌<◌, ◌≤◌, Bool, true, false, List, [], ◌∷◌, ◌++◌, length, get_or, take, drop, sym, refl, ap, ◌∙◌, subst, ⊎_elim, arith, Bor}
-use Rattle.std.proofs.lemmas.Bool.{cases_lt, true≢false, le-leb}
+use Rattle.std.proofs.Common.{◌≡◌, ℕ, ◌+◌, ◌-◌, ◌<◌, ◌≤◌, Bool, true, false, List, [], ◌∷◌, ◌++◌, length, get_or, take, drop, sym, refl, ap, ◌∙◌, subst, arith, Bor}
 use Rattle.fault.specs.declared.Fault.{Fault}
 use Rattle.pattern.specs.declared.sign.Sign.{Sign}
-use Rattle.pattern.specs.declared.sign.Sign.TheVariants.{Plain, Escape, Any, Class, Bar, Star, Plus, Question, Counted, Open, Close, End}
+use Rattle.pattern.specs.declared.sign.Sign.TheVariants.{Plain, Escape, Any, Class, Bar, Star, Plus, Question, Counted}
 use Rattle.pattern.specs.Characters.{kind, plain, escapable}
 use Rattle.pattern.specs.Expressions.{Range, Regex, one, byte, any, star, plus, opt, counted}
 use Rattle.pattern.specs.Grammar.{Members, Counts, exactly, between, Repeated, by_star, by_plus, by_opt, by_count}
@@ -19,25 +18,6 @@ use Rattle.pattern.proofs.Completes.{escape_runs}
 use Rattle.pattern.proofs.Slices.{drop_is, head_is, split_at, moves}
 use Rattle.pattern.proofs.SignWays.{count_stops, class_stops}
 use Rattle.pattern.proofs.Walking.{inside, part_within, atom_leads, bar_leads, repeat_leads, sign_stops}
-
-end_empty : (s : Sign) → is_end s ≡ true → length (text s) ≡ 0
-end_empty (Plain t) e = absurd (true≢false (sym e))
-end_empty (Escape t) e = absurd (true≢false (sym e))
-end_empty (Any t) e = absurd (true≢false (sym e))
-end_empty (Class t) e = absurd (true≢false (sym e))
-end_empty (Bar t) e = absurd (true≢false (sym e))
-end_empty (Star t) e = absurd (true≢false (sym e))
-end_empty (Plus t) e = absurd (true≢false (sym e))
-end_empty (Question t) e = absurd (true≢false (sym e))
-end_empty (Counted t) e = absurd (true≢false (sym e))
-end_empty (Open t) e = absurd (true≢false (sym e))
-end_empty (Close t) e = absurd (true≢false (sym e))
-end_empty End e = refl
-
-pub sign_within : (p : List ℕ) (at : ℕ) (r : Bool) (s : Sign) → at ≤ length p → Handed p at r s → at + length (text s) ≤ length p
-sign_within p at r s le handed =
-    ⊎_elim (λ lt. part_within p at (text s) lt handed.part)
-    (λ ge. omega (arith, end_empty s (handed.ended ∙ le-leb (length p) at ge))) (cases_lt at (length p))
 
 -- a sign of one byte that was handed out
 pub begun : (p : List ℕ) (at : ℕ) (r : Bool) (s s' : Sign) (b : ℕ) → Handed p at r s → s ≡ s' → false ≡ is_end s' → (Formed r s' → text s' ≡ b ∷ []) → (at < length p) × (drop at p ≡ b ∷ drop (at + length (text s)) p)

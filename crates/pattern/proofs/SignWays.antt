@@ -32,14 +32,8 @@ module _ (p : List ℕ) (at : ℕ) (lt : at < length p) where
   pub one_byte : (b : ℕ) → get_or p at 0 ≡ b → take (at + 1 - at) (drop at p) ≡ b ∷ []
   one_byte b is = slice_is p at (at + 1) (b ∷ []) _ (drop_is p at b lt is) refl
 
-  pub two_bytes : (a b : ℕ) → at + 1 < length p → get_or p at 0 ≡ a → get_or p (at + 1) 0 ≡ b → take (at + 2 - at) (drop at p) ≡ a ∷ (b ∷ [])
-  two_bytes a b next one two = slice_is p at (at + 2) (a ∷ (b ∷ [])) _ (drop_is p at a lt one ∙ ap (λ l. a ∷ l) (drop_is p (at + 1) b next two)) refl
-
   pub one_part : drop at p ≡ take (at + 1 - at) (drop at p) ++ drop (at + length (take (at + 1 - at) (drop at p))) p
   one_part = slice_part p at (at + 1) (omega arith) (omega arith)
-
-  pub two_part : at + 1 < length p → drop at p ≡ take (at + 2 - at) (drop at p) ++ drop (at + length (take (at + 2 - at) (drop at p))) p
-  two_part next = slice_part p at (at + 2) (omega arith) (omega arith)
 
   -- the byte leads nowhere
   pub dies : (repeatable : Bool) (f : Fault) → ((m : Mode) → Waits repeatable m → (fr : Frame) (d : ℕ) (ctx : List Frame) → step m (get_or p at 0) fr d ctx ≡ dead) → f ≡ refused BadlyWritten at → SignStops p at repeatable f

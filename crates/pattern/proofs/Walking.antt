@@ -1,7 +1,7 @@
 -- One step of the recursive reader, sign by sign, and what its loop keeps. Assumes nothing.
 use Rattle.std.proofs.Common.{◌≡◌, ℕ, ◌+◌, ◌-◌, ◌<◌, ◌≤◌, Bool, true, false, leb, List, ◌∷◌, ◌++◌, length, drop, sym, refl, ap, ◌∙◌, subst, ⊎_elim, arith, length-append, length-drop}
 use Rattle.std.proofs.lemmas.List.{drop_all, drop_more}
-use Rattle.std.proofs.lemmas.Bool.{cases_lt, leb-true, leb-false}
+use Rattle.std.proofs.lemmas.Bool.{cases_lt, leb-false}
 use Rattle.fault.specs.declared.Fault.{Fault}
 use Rattle.pattern.specs.Expressions.{Regex, empty}
 use Rattle.pattern.specs.Grammar.{Repeated}
@@ -9,7 +9,7 @@ use Rattle.pattern.specs.Automaton.{Frame, frame, later, Mode, ready, after, esc
 use Rattle.pattern.specs.Drafts.{settled, AtomKept, BarKept, RepeatKept, ClosedKept}
 use Rattle.pattern.specs.Refusals.{Stops}
 use Rattle.pattern.specs.Signs.{SignStops, Waits}
-use Rattle.pattern.specs.Walks.{Halts, Leads, Steps, StepStops, GroupStops, AlternativesRead, AlternativesStop}
+use Rattle.pattern.specs.Walks.{Halts, Leads, StepStops, GroupStops, AlternativesRead, AlternativesStop}
 use Rattle.pattern.proofs.Runs.{NoRepeat, settles, verdict_alive}
 use Rattle.pattern.proofs.Completes.{repeat_runs}
 
@@ -38,9 +38,6 @@ module _ (p : List ℕ) (at : ℕ) where
   halts_free : Halts p at → NoRepeat (drop at p)
   halts_free halts =
       ⊎_elim (λ lt. subst NoRepeat (sym (drop_more p at 0 lt ∙ ap (λ b. b ∷ drop (at + 1) p) (halts lt))) refl) (λ ge. subst NoRepeat (sym (drop_all at p ge)) tt) (cases_lt at (length p))
-
-  pub end_halts : true ≡ leb (length p) at → Halts p at
-  end_halts is lt = absurd (omega (arith, leb-true (length p) at (sym is)))
 
   -- r says whether a repeat may stand here, and K is what is kept
   module _ (d : ℕ) (r : Bool) (K : Mode → Frame → Type 0) (waits : (m : Mode) (fr : Frame) → K m fr → Waits r m) where
@@ -86,11 +83,6 @@ module _ (p : List ℕ) (at : ℕ) where
       repeat_leads u g written again is told (in_count f s) fr keeps = absurd (subst (λ b. Waits b (in_count f s)) again (waits (in_count f s) fr keeps))
 
 module _ (p : List ℕ) (from d at : ℕ) (K : Mode → Frame → Type 0) where
-  pub walk_more : (next : ℕ) (K' : Mode → Frame → Type 0) → Leads p from d at ready opened K → Steps p at d K next K' → Leads p from d next ready opened K'
-  walk_more next K' walk step =
-      let on = step.leads walk.mode walk.frame walk.keeps in
-      record { mode = on.mode; frame = on.frame; keeps = on.keeps; runs = λ ctx. walk.runs ctx ∙ on.runs ctx }
-
   pub walk_stops : (f : Fault) → Leads p from d at ready opened K → StepStops p at d K f → AlternativesStop p from d f
   walk_stops f walk stop ctx = subst (Stops p f) (sym (walk.runs ctx)) (stop walk.mode walk.frame walk.keeps ctx)
 
