@@ -1,6 +1,5 @@
 -- What the reader's answer at the outermost level says of the whole pattern. Assumes nothing.
 use Rattle.std.proofs.Common.{◌≡◌, ℕ, ◌-◌, ◌<◌, ◌≤◌, min, List, [], length, get_or, Result, Ok, Err, MatchResult, IsOk, refl, ap, ◌∙◌, subst, inl, inr, arith, w8, Fits}
-use mathlib.Core.Logic.{∥∥₁_elim}
 use Rattle.std.proofs.ByRecursion.{All-from_get_or}
 use Rattle.std.proofs.lemmas.List.{drop_all}
 use Rattle.fault.specs.declared.Fault.{Fault}
@@ -12,7 +11,7 @@ use Rattle.pattern.specs.Grammar.{Written, lone, nothing}
 use Rattle.pattern.specs.Beginnings.{LongestBeginning}
 use Rattle.pattern.specs.Automaton.{closed, begin, verdict, start}
 use Rattle.pattern.specs.Refusals.{Stops, refused}
-use Rattle.pattern.specs.Reading.{Granted, Readable, Holds, Bad, Unwritten, Refused, Assembled}
+use Rattle.pattern.specs.Reading.{Granted, Readable, Bad, Unwritten, Refused, Assembled}
 use Rattle.pattern.specs.Walks.{AlternativesRead, AlternativesStop}
 use Rattle.pattern.proofs.Runs.{verdict_end}
 use Rattle.pattern.proofs.Slices.{stops_inside, stopped}
@@ -68,6 +67,6 @@ not_both p f (inr (inl (_, not-well, _, _))) (n, granted') = not-well (granted'.
 not_both p f (inr (inr (_, e, is, many, _))) (n, granted') = omega (arith, granted'.few, ap places (one_reading p e granted'.expression is granted'.written))
 
 -- what a record holds is not refused
-pub holds_ok : {T : Type 0} (r : Result T Fault) (P : T → Type 0) (w p : List ℕ) → MatchResult r P (Unwritten w) → Holds p → w ≡ p → IsOk r
-holds_ok (Ok x) P w p told holds is = refl
-holds_ok (Err f) P w p stop holds is = absurd (∥∥₁_elim holds (λ a b. absurd a) (λ r. not_both p f (refused_unwritten p f (subst (λ q. Unwritten q f) is stop)) r))
+pub readable_ok : {T : Type 0} (r : Result T Fault) (P : T → Type 0) (w p : List ℕ) → MatchResult r P (Unwritten w) → Readable p → w ≡ p → IsOk r
+readable_ok (Ok x) P w p told readable is = refl
+readable_ok (Err f) P w p stop readable is = absurd (not_both p f (refused_unwritten p f (subst (λ q. Unwritten q f) is stop)) readable)

@@ -3,7 +3,7 @@
 ghost use Rattle.std.specs.Prelude.{◌≡◌, [], is_ok, Decides, MatchResult};
 ghost use Rattle.pattern.specs.Expressions.{Regex};
 ghost use Rattle.pattern.specs.Grammar.{Written, deepest, OneReading};
-ghost use Rattle.pattern.specs.Reading.{Holds, Readable, Granted, Refused};
+ghost use Rattle.pattern.specs.Reading.{Readable, Granted, Refused};
 
 use crate::assembly::Assembly;
 use crate::verdict::{assemble, judge};
@@ -18,13 +18,13 @@ pub struct Pattern {
 
 impl Model for Pattern {
     ghost use Rattle.std.specs.Prelude.{ℕ, List};
-    ghost use Rattle.pattern.specs.Reading.{Holds};
+    ghost use Rattle.pattern.specs.Reading.{Readable};
 
     ghost Value = { List ℕ };
 
     ghost view = { λ p. p.bytes.items };
 
-    ghost invariant = { λ p. Holds p.bytes.items };
+    ghost invariant = { λ p. Readable p.bytes.items };
 }
 
 impl Pattern {
@@ -38,7 +38,7 @@ impl Pattern {
 
     pub fn bytes(&self) -> &[u8]
         ensures value { result.now ≡ self.now }
-        ensures granted { Holds self.now }
+        ensures granted { Readable self.now }
     {
         self.bytes.as_slice()
     }
@@ -46,7 +46,7 @@ impl Pattern {
     // What the pattern is put together as.
     pub fn assemble<T: Assembly>(&self) -> T
         ensures value { (e : Regex) → Written deepest self.now e → T.Assembly.stands result e }
-        ensures granted { Holds self.now }
+        ensures granted { Readable self.now }
     {
         assemble(self.bytes()).unwrap()
     }

@@ -1,7 +1,7 @@
 use Rattle.std.proofs.Common.{sym, subst}
-use Rattle.pattern.specs.Reading.{Holds}
+use Rattle.pattern.specs.Reading.{Readable}
 use Rattle.pattern.proofs.Outcomes.{empty_granted}
 use Rattle.pattern.proofs.record.Pattern.new.Goals as goal
 
 pub invariant_of-result : goal.invariant_of-result
-invariant_of-result c = subst Holds (sym c.new.ensures) ∣ (0, empty_granted) ∣₁
+invariant_of-result c = subst Readable (sym c.new.ensures) (0, empty_granted)
