@@ -6,6 +6,7 @@ pub mod Grammar
 pub mod Beginnings
 pub mod Automaton
 pub mod Refusals
+pub mod Cursors
 pub mod Signs
 pub mod Drafts
 pub mod Reading

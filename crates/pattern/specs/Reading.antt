@@ -23,7 +23,7 @@ pub record Granted (w : List ℕ) (n : ℕ) : Type 0 where
 abbrev pub Readable : List ℕ → Type 0
 Readable w = (n : ℕ) × Granted w n
 
--- what a record always holds; truncated, since a ghost field's type must have at most one proof
+-- the same, with nothing told of the expression
 abbrev pub Holds : List ℕ → Type 0
 Holds w = ∥ Readable w ∥₁
 

@@ -1,5 +1,5 @@
 // The count of places while a pattern is read. It stops at 64: nested counts multiply past any
-// number, and a count of 0 around them makes them 0 again.
+// number. It is no Option, since a count of 0 around what is past 63 makes it 0 again.
 ghost use Rattle.std.specs.Prelude.{◌≡◌, min};
 ghost use Rattle.pattern.specs.Places.{places as places_of};
 

@@ -1,6 +1,6 @@
 // A place in a pattern, which is never past its end: what each private reader is given, and what it
 // hands back where it ends.
-ghost use Rattle.std.specs.Prelude.{◌≡◌, ◌+◌, ◌<◌, ◌≤◌, length, MatchOption, MatchResult, slice_index, slice_range};
+ghost use Rattle.std.specs.Prelude.{◌≡◌, ◌+◌, ◌<◌, ◌≤◌, length, MatchOption, MatchResult, slice_range};
 ghost use Rattle.fault.specs.declared.Refusal.TheVariants.{BadlyWritten};
 ghost use Rattle.pattern.specs.Refusals.{refused};
 
@@ -14,16 +14,18 @@ pub struct Cursor<'a> {
 }
 
 impl<'a> Cursor<'a> {
+    ghost use Rattle.pattern.specs.Cursors.{Stands, IsAtEnd};
+
     // The byte here, where the pattern has not ended.
     pub(crate) fn peek(self) -> Option<u8>
-        ensures cases { MatchOption result (length self.entry.pattern.now ≤ self.entry.at) (λ b. (self.entry.at < length self.entry.pattern.now) × (slice_index self.entry.pattern.now self.entry.at ≡ b)) }
+        ensures cases { MatchOption result (IsAtEnd self.entry) (Stands self.entry) }
     {
         self.pattern.get(self.at).copied()
     }
 
     // The byte here; a pattern that ends here is badly written.
     pub(crate) fn byte(self) -> Result<u8, Fault>
-        ensures cases { MatchResult result (λ b. (self.entry.at < length self.entry.pattern.now) × (slice_index self.entry.pattern.now self.entry.at ≡ b)) (λ f. (length self.entry.pattern.now ≤ self.entry.at) × (f ≡ refused BadlyWritten self.entry.at)) }
+        ensures cases { MatchResult result (Stands self.entry) (λ f. IsAtEnd self.entry × (f ≡ refused BadlyWritten self.entry.at)) }
     {
         self.peek().ok_or(self.refuse())
     }

@@ -1,6 +1,7 @@
 // The pattern reader: it follows the signs of a pattern and puts their parts together. A group is
 // read by the reader itself, with one level less left to nest.
-ghost use Rattle.std.specs.Prelude.{◌≡◌, ◌<◌, length, IfOk, IfSome, MatchOption, MatchResult, slice_index};
+ghost use Rattle.std.specs.Prelude.{◌≡◌, ◌<◌, length, IfOk, IfSome, MatchOption, MatchResult};
+ghost use Rattle.pattern.specs.Cursors.{Stands};
 ghost use Rattle.pattern.specs.Drafts.{Keeps};
 ghost use Rattle.pattern.specs.Walks.{Halts, Steps, StepStops, GroupRead, GroupStops, AlternativesRead, AlternativesStop};
 
@@ -13,7 +14,7 @@ use fault::Fault;
 
 #[cycle(alternatives_group_step)]
 fn group<T: Assembly>(from: Cursor, depth: u8) -> Result<(Cursor, T), Fault>
-    requires paren { (from.at < length from.pattern.now) × (slice_index from.pattern.now from.at ≡ 40) }
+    requires paren { Stands from 40 }
     ensures cases { MatchResult result (λ o. GroupRead from.entry.pattern.now from.entry.at depth o.0.at (T.Assembly.stands o.1)) (λ f. GroupStops from.entry.pattern.now from.entry.at depth f) }
     ensures same { IfOk result (λ o. o.0.pattern.now ≡ from.entry.pattern.now) }
 {
@@ -21,6 +22,7 @@ fn group<T: Assembly>(from: Cursor, depth: u8) -> Result<(Cursor, T), Fault>
         return Err(from.refuse());
     }
     let (end, part) = alternatives(from.next(), depth - 1)?;
+    // The alternatives end at a closing parenthesis, or where the pattern does.
     end.byte()?;
     Ok((end.next(), part))
 }

@@ -1,5 +1,5 @@
 // The pattern record, which is lent to be read into. It always holds a pattern that was granted,
-// at first the empty one.
+// at first the empty one; `bytes` and `assemble` say so to their callers.
 ghost use Rattle.std.specs.Prelude.{◌≡◌, [], is_ok, Decides, MatchResult};
 ghost use Rattle.pattern.specs.Expressions.{Regex};
 ghost use Rattle.pattern.specs.Grammar.{Written, deepest, OneReading};

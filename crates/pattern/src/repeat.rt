@@ -1,5 +1,6 @@
 // The counted repeat, from after its brace: a least and a most count, or one for both.
-ghost use Rattle.std.specs.Prelude.{◌≡◌, ℕ, ◌+◌, ◌<◌, ◌≤◌, length, Decides, IfOk, MatchOption, MatchResult, slice_index};
+ghost use Rattle.std.specs.Prelude.{◌≡◌, ℕ, ◌+◌, ◌<◌, ◌≤◌, Decides, IfOk, MatchOption, MatchResult};
+ghost use Rattle.pattern.specs.Cursors.{Stands};
 ghost use Rattle.pattern.specs.Automaton.{count_kind, digit, count_can_begin, count_can_go_on};
 ghost use Rattle.pattern.specs.Repeats.{NumberRead, NumberRefused, CountsRead, CountsRefused};
 
@@ -7,7 +8,7 @@ use crate::cursor::Cursor;
 use fault::Fault;
 
 fn digit_at(from: Cursor) -> Option<u8>
-    ensures value { MatchOption result ((k : ℕ) → count_kind (slice_index from.entry.pattern.now from.entry.at) ≡ digit k → from.entry.at < length from.entry.pattern.now → ⊥) (λ k. (from.entry.at < length from.entry.pattern.now) × (k < 10) × (slice_index from.entry.pattern.now from.entry.at ≡ 48 + k)) }
+    ensures value { MatchOption result ((b k : ℕ) → Stands from.entry b → count_kind b ≡ digit k → ⊥) (λ k. (k < 10) × Stands from.entry (48 + k)) }
 {
     match from.peek() {
         Some(byte @ b'0'..=b'9') => Some(byte - b'0'),
@@ -53,7 +54,7 @@ fn number(from: Cursor, least: u8) -> Result<(u8, Cursor), Fault>
 }
 
 fn closes(from: Cursor, least: u8, most: u8) -> bool
-    ensures cases { Decides result ((from.entry.at < length from.entry.pattern.now) × (slice_index from.entry.pattern.now from.entry.at ≡ 125) × (least ≤ most)) }
+    ensures cases { Decides result (Stands from.entry 125 × (least ≤ most)) }
 {
     from.peek() == Some(b'}') && least <= most
 }

@@ -1,5 +1,6 @@
 // The signs that a pattern is made of, read one at a time.
-ghost use Rattle.std.specs.Prelude.{◌≡◌, ◌^◌, ◌<◌, Bool, true, false, length, MatchResult, slice_index};
+ghost use Rattle.std.specs.Prelude.{◌≡◌, ◌^◌, ◌<◌, Bool, true, false, length, MatchResult};
+ghost use Rattle.pattern.specs.Cursors.{Stands};
 ghost use Rattle.fault.specs.declared.Refusal.TheVariants.{BadlyWritten};
 ghost use Rattle.pattern.specs.Refusals.{refused};
 ghost use Rattle.pattern.specs.Signs.{text, Handed, SignRefused};
@@ -9,6 +10,7 @@ use crate::{class, repeat};
 use fault::Fault;
 
 // Each sign is the part of the pattern that it came from; of a class, what stands between its brackets.
+// `End` is a sign and no `None`, since what is read by a group ends at it as at a `Close`.
 #[derive(Clone, Copy)]
 pub enum Sign<'a> {
     Plain(&'a [u8]),
@@ -56,7 +58,7 @@ fn repeat_sign<'a>(sign: Sign<'a>, from: Cursor, after: bool) -> Result<Sign<'a>
 }
 
 fn counted(from: Cursor, after: bool) -> Result<Sign, Fault>
-    requires brace { (from.at < length from.pattern.now) × (slice_index from.pattern.now from.at ≡ 123) }
+    requires brace { Stands from 123 }
     ensures cases { MatchResult result (λ s. Handed from.entry.pattern.now from.entry.at after s) (λ f. SignRefused from.entry.pattern.now from.entry.at after f) }
 {
     if !after {
@@ -67,7 +69,7 @@ fn counted(from: Cursor, after: bool) -> Result<Sign, Fault>
 }
 
 fn class_sign(from: Cursor) -> Result<Sign, Fault>
-    requires bracket { (from.at < length from.pattern.now) × (slice_index from.pattern.now from.at ≡ 91) }
+    requires bracket { Stands from 91 }
     ensures cases { (after : Bool) → MatchResult result (λ s. Handed from.entry.pattern.now from.entry.at after s) (λ f. SignRefused from.entry.pattern.now from.entry.at after f) }
 {
     let inside = from.next();
@@ -76,7 +78,7 @@ fn class_sign(from: Cursor) -> Result<Sign, Fault>
 }
 
 fn escape(from: Cursor) -> Result<Sign, Fault>
-    requires backslash { (from.at < length from.pattern.now) × (slice_index from.pattern.now from.at ≡ 92) }
+    requires backslash { Stands from 92 }
     ensures cases { (after : Bool) → MatchResult result (λ s. Handed from.entry.pattern.now from.entry.at after s) (λ f. SignRefused from.entry.pattern.now from.entry.at after f) }
 {
     let escaped = from.next();

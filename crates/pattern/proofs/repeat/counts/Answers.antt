@@ -22,7 +22,7 @@ returns-then-not-closes-clause-cases c =
     let (lt, is) = rw c.in_ok-least.ensures.same at c.in_ok-byte.ensures.cases in
     let last = rw (c.next-in-44.ensures.pattern, c.in_ok-least.ensures.same, c.next-in-44.ensures.at) at c.in_ok-most-in-44.ensures.cases in
     let closes = rw (c.in_ok-most-in-44.ensures.same, c.next-in-44.ensures.pattern, c.in_ok-least.ensures.same) at c.if-not-closes.ensures.cases.1 in
-    after_second _ _ _ _ _ _ _ c.in_ok-least.ensures.cases lt (is ∙ c.in-44.is) last (λ lt' ends le. false≢true (closes (lt', ends, le))) c.refuse.ensures.value
+    after_second _ _ _ _ _ _ _ c.in_ok-least.ensures.cases lt (is ∙ c.in-44.is) last (λ lt' ends le. false≢true (closes ((lt', ends), le))) c.refuse.ensures.value
 
 pub returns-in-125-clause-cases : goal.returns-in-125-clause-cases
 returns-in-125-clause-cases c =
@@ -33,7 +33,7 @@ pub returns-else-not-closes-clause-cases : goal.returns-else-not-closes-clause-c
 returns-else-not-closes-clause-cases c =
     let (lt, is) = rw c.in_ok-least.ensures.same at c.in_ok-byte.ensures.cases in
     let last = rw (c.next-in-44.ensures.pattern, c.in_ok-least.ensures.same, c.next-in-44.ensures.at) at c.in_ok-most-in-44.ensures.cases in
-    let (lt', ends, le) = rw (c.in_ok-most-in-44.ensures.same, c.next-in-44.ensures.pattern, c.in_ok-least.ensures.same) at (c.if-not-closes.ensures.cases.0 refl) in
+    let ((lt', ends), le) = rw (c.in_ok-most-in-44.ensures.same, c.next-in-44.ensures.pattern, c.in_ok-least.ensures.same) at (c.if-not-closes.ensures.cases.0 refl) in
     rw c.next-in-44-2.ensures.at (two_counts _ _ _ _ _ _ c.in_ok-least.ensures.cases lt (is ∙ c.in-44.is) last lt' ends le)
 
 pub returns-in_default-clause-cases : goal.returns-in_default-clause-cases

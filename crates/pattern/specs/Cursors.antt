@@ -1,0 +1,12 @@
+-- Where a cursor stands in its pattern. Only private functions cite it. Assumes nothing.
+--
+--   Stands c b   the byte b stands at the cursor c
+--   IsAtEnd c    the pattern ends at c
+use Rattle.std.specs.Prelude.{◌≡◌, ℕ, ◌<◌, ◌≤◌, length, slice_index}
+use Rattle.pattern.specs.declared.cursor.Cursor.{Cursor}
+
+abbrev pub Stands : Cursor → ℕ → Type 0
+Stands c b = (c.at < length c.pattern.now) × (slice_index c.pattern.now c.at ≡ b)
+
+abbrev pub IsAtEnd : Cursor → Type 0
+IsAtEnd c = length c.pattern.now ≤ c.at
