@@ -39,8 +39,7 @@ fn step<'a, T: Assembly>(
     let sign = sign_at(from.pattern, from.at, draft.last.is_some())?;
     let end = from.skip(sign.len());
     match sign {
-        Sign::End => Ok(None),
-        Sign::Close(_) => Ok(None),
+        Sign::End | Sign::Close(_) => Ok(None),
         Sign::Open(_) => {
             let (end, part) = group(from, depth)?;
             Ok(Some((end, draft.atom(part))))

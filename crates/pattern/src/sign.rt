@@ -10,7 +10,7 @@ use crate::{class, repeat};
 use fault::Fault;
 
 // Each sign is the part of the pattern that it came from; of a class, what stands between its brackets.
-// `End` is a sign and no `None`, since what is read by a group ends at it as at a `Close`.
+// `End` is a sign and no `None`: the alternatives of a group end at it as they do at a `Close`.
 #[derive(Clone, Copy)]
 pub enum Sign<'a> {
     Plain(&'a [u8]),
