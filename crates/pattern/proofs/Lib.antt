@@ -25,3 +25,4 @@ pub mod SignSteps
 pub mod Outcomes
 pub mod Worked
 pub mod SignShapes
+pub mod OneByteSigns

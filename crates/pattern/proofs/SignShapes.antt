@@ -12,7 +12,7 @@ use Rattle.pattern.specs.Repeats.{CountsRefused}
 use Rattle.pattern.proofs.Slices.{drop_is, head_is}
 
 -- w is the rest of a sign whose first byte is of this kind
-abbrev Shape : Kind → Bool → List ℕ → Type 0
+abbrev pub Shape : Kind → Bool → List ℕ → Type 0
 Shape bar r w = Unit {0}
 Shape times r w = r ≡ true
 Shape add r w = r ≡ true

@@ -1,16 +1,17 @@
-use Rattle.std.proofs.Common.{false, sym, refl, ◌∙◌, subst, arith}
+use Rattle.std.proofs.Common.{sym, refl, ◌∙◌, subst, arith}
 use Rattle.pattern.proofs.Exits.{handed_on}
 use Rattle.std.proofs.lemmas.Bool.{lt-leb, false≢true}
 use Rattle.pattern.specs.Signs.{SignRefused}
 use Rattle.pattern.proofs.Slices.{slice_part}
-use Rattle.pattern.proofs.SignWays.{nothing_to_repeat, count_stops, counted_is}
-use Rattle.pattern.proofs.SignShapes.{none_here, no_counts}
+use Rattle.pattern.proofs.SignWays.{count_stops, counted_is}
+use Rattle.pattern.proofs.SignShapes.{no_counts}
+use Rattle.pattern.proofs.OneByteSigns.{no_atom}
 use Rattle.pattern.proofs.sign.counted.Goals as goal
 
 pub returns-then-not-after : goal.returns-then-not-after
 returns-then-not-after c =
     let (lt, is) = c.requires.brace in
-    record { cases = subst (λ r. SignRefused c.args.from.pattern.now c.args.from.at r c.refuse.result) (sym c.if-not-after.true) (record { none = none_here _ _ 123 lt is false (λ w shaped. false≢true shaped.0); stops = nothing_to_repeat _ _ lt _ 123 is (λ fr d ctx. refl) c.refuse.ensures.value }) }
+    record { cases = no_atom _ _ 123 lt is (λ fr d ctx. refl) _ _ c.if-not-after.true (λ w shaped. false≢true shaped.0) c.refuse.ensures.value }
 
 pub returns-in_err-end : goal.returns-in_err-end
 returns-in_err-end c =
