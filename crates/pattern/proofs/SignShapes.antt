@@ -50,16 +50,13 @@ shape an_open = (40, [], refl, tt)
 shape a_close = (41, [], refl, tt)
 shape (a_repeat rep) = repeat_shape rep
 
-nothing_in : {b : ℕ} {w : List ℕ} → [] ≡ b ∷ w → ⊥
-nothing_in {b} {w} e = omega (arith, ap length e)
-
 module _ (p : List ℕ) (at : ℕ) (b : ℕ) (lt : at < length p) (is : get_or p at 0 ≡ b) where
   -- the rest of a sign that stands here
   rest : (r : Bool) (n : ℕ) → SignText r (take n (drop at p)) → (k : ℕ) × Shape (kind b) r (take k (drop (at + 1) p))
   rest r n sign = found n (shape sign)
     where
       found : (n : ℕ) → Shaped r (take n (drop at p)) → (k : ℕ) × Shape (kind b) r (take k (drop (at + 1) p))
-      found zero (c, w, e, shaped) = absurd (nothing_in e)
+      found zero (c, w, e, shaped) = cc
       found (suc k) (c, w, e, shaped) =
           let same : b ∷ take k (drop (at + 1) p) ≡ c ∷ w = ap (take (suc k)) (sym (drop_is p at b lt is)) ∙ e in
           let first : c ≡ b = ap (λ l. get_or l 0 0) (sym same) in

@@ -1,6 +1,6 @@
 -- What is read of a class, from after its bracket. Only private functions cite it. Assumes nothing.
 --
---   Follows old b t new   what the class reader answers to the byte b, and the state that it is left in
+--   Follows old b t new   what the class reader answers to the byte b, None where b cannot stand, and the state that it is left in
 --   ClassRead p at end    the inside of the class is p from `at` to `end`, where its bracket stands
 --   ClassHeard .. E       its members satisfy E
 --   ClassStops            the fault has the place where the automaton stops
