@@ -1,40 +1,50 @@
 -- Masks that are combined, by what their members mean, and the tables of the empty text and of one place. Assumes nothing.
-use Rattle.std.proofs.Common.{◌≡◌, ℕ, ◌-◌, ◌<◌, ◌≤◌, Bool, true, ◌&&◌, ◌||◌, eqb, ltb, leb, ◌⊎◌, ◌↔◌, List, get_or, set, replicate, Decides, sym, ap, ◌∙◌, subst, inl, inr, ⊎_elim, get_or-set_other}
+use Rattle.std.proofs.Common.{◌≡◌, ℕ, ◌-◌, ◌<◌, ◌≤◌, Bool, ◌&&◌, ◌||◌, eqb, ltb, leb, ◌⊎◌, ◌↔◌, List, get_or, set, replicate, Decides, sym, ap, ◌∙◌, subst, inl, inr, ⊎_elim, get_or-set_other}
 use lib.Bits.{bit_or}
 use Rattle.std.proofs.lemmas.List.{get_or-replicate}
 use Rattle.std.proofs.lemmas.Bool.{leb-true, le-leb, cases_eq}
 use Rattle.std.proofs.lemmas.Bool.Decides.{Decides-and, Decides-or, Decides-eqb, Decides-ltb}
 use Rattle.machines.specs.Building.{TablesBy}
-use Rattle.machines.specs.Masks.{Has, After}
+use Rattle.machines.specs.Masks.{Has, Members, Only, After}
 use Rattle.machines.specs.Shown.Members.{or_members, zero_has, zeroth_members, place_one_members}
 
-pub either_has : {P Q : Type 0} (a b p : ℕ) → Has a p ↔ P → Has b p ↔ Q → Has (bit_or a b) p ↔ (P ⊎ Q)
-either_has a b p x y = (
-  λ h. ⊎_elim (λ z. inl (x.0 z)) (λ z. inr (y.0 z)) ((or_members a b p).0 h),
-  λ h. (or_members a b p).1 (⊎_elim (λ z. inl (x.1 z)) (λ z. inr (y.1 z)) h),
-)
+pub either_members : {P Q : ℕ → Type 0} (a b : ℕ) → Members a P → Members b Q → Members (bit_or a b) (λ p. P p ⊎ Q p)
+either_members a b x y = record {
+  at = λ p. (
+    λ h. ⊎_elim (λ z. inl ((x.at p).0 z)) (λ z. inr ((y.at p).0 z)) ((or_members a b p).0 h),
+    λ h. (or_members a b p).1 (⊎_elim (λ z. inl ((x.at p).1 z)) (λ z. inr ((y.at p).1 z)) h),
+  );
+}
 
-pub same_has : (a p : ℕ) → Has a p ↔ Has a p
-same_has a p = (λ h. h, λ h. h)
+pub own_members : (a : ℕ) → Members a (Has a)
+own_members a = record { at = λ p. (λ h. h, λ h. h) }
 
 -- the set if a test passes
-pub only_has : {P Q : Type 0} (r set p : ℕ) (when : Bool) → Has r p ↔ ((when ≡ true) × Has set p) → Decides when P → Has set p ↔ Q → Has r p ↔ (P × Q)
-only_has r set p when is d q = (
-  λ h. let x = is.0 h in (d.0 x.0, q.0 x.1),
-  λ h. is.1 (d.1 h.0, q.1 h.1),
-)
+pub only_members : {P : Type 0} {Q : ℕ → Type 0} (r set : ℕ) (when : Bool) → Members r (Only when set) → Decides when P → Members set Q → Members r (λ p. P × Q p)
+only_members r set when is d q = record {
+  at = λ p. (
+    λ h. let x = (is.at p).0 h in (d.0 x.0, (q.at p).0 x.1),
+    λ h. (is.at p).1 (d.1 h.0, (q.at p).1 h.1),
+  );
+}
 
-pub swapped : {P Q R : Type 0} → R ↔ (P × Q) → R ↔ (Q × P)
-swapped x = (λ h. let y = x.0 h in (y.1, y.0), λ h. x.1 (h.1, h.0))
+pub swapped : {P : Type 0} {Q : ℕ → Type 0} (r : ℕ) → Members r (λ p. P × Q p) → Members r (λ p. Q p × P)
+swapped r x = record { at = λ p. (λ h. let y = (x.at p).0 h in (y.1, y.0), λ h. (x.at p).1 (h.1, h.0)) }
 
-pub range_has : (r p low c high : ℕ) → Has r p ↔ (((leb low c && leb c high) ≡ true) × Has 2 p) → Has r p ↔ ((p ≡ 1) × ((low ≤ c) × (c ≤ high)))
-range_has r p low c high is =
-    swapped (only_has r 2 p (leb low c && leb c high) is (Decides-and (leb low c) (leb c high) (leb-true low c, le-leb low c) (leb-true c high, le-leb c high)) (place_one_members p))
+pub zeroth : Members 1 (λ p. p ≡ 0)
+zeroth = record { at = zeroth_members }
+
+pub place_one : Members 2 (λ p. p ≡ 1)
+place_one = record { at = place_one_members }
+
+pub range_members : (r low c high : ℕ) → Members r (Only (leb low c && leb c high) 2) → Members r (λ p. (p ≡ 1) × ((low ≤ c) × (c ≤ high)))
+range_members r low c high is =
+    swapped r (only_members r 2 (leb low c && leb c high) is (Decides-and (leb low c) (leb c high) (leb-true low c, le-leb low c) (leb-true c high, le-leb c high)) place_one)
 
 -- a row moves with its place, and row 0 stays
-pub later_row_has : (r old p q by from : ℕ) (rows : ℕ → ℕ) → Has r p ↔ (((eqb q 0 || ltb by q) ≡ true) × Has old p) → Has old p ↔ After by (rows from) p → from ≡ q - by → Has r p ↔ (((q ≡ 0) ⊎ (by < q)) × After by (rows (q - by)) p)
-later_row_has r old p q by from rows is was e =
-    only_has r old p (eqb q 0 || ltb by q) is (Decides-or (eqb q 0) (ltb by q) (Decides-eqb q 0) (Decides-ltb by q)) (subst (λ x. Has old p ↔ After by (rows x) p) e was)
+pub later_row_members : (r old q by from : ℕ) (rows : ℕ → ℕ) → Members r (Only (eqb q 0 || ltb by q) old) → Members old (After by (rows from)) → from ≡ q - by → Members r (λ p. ((q ≡ 0) ⊎ (by < q)) × After by (rows (q - by)) p)
+later_row_members r old q by from rows is was e =
+    only_members r old (eqb q 0 || ltb by q) is (Decides-or (eqb q 0) (ltb by q) (Decides-eqb q 0) (Decides-ltb by q)) (subst (λ x. Members old (After by (rows x))) e was)
 
 nothing : (n q p : ℕ) → q < n → Has (get_or (replicate n 0) q 0) p → ⊥
 nothing n q p lt h = zero_has p (subst (λ x. Has x p) (get_or-replicate n q 0 0 lt) h)
@@ -58,4 +68,4 @@ one_row q p lt =
     (cases_eq q 0)
 
 pub place_by : (takes : List ℕ) → TablesBy (record { follow = set (replicate 64 0) 0 2; takes = takes; accepts = 2 }) (λ q p. (q ≡ 0) × (p ≡ 1)) (λ c p. Has (get_or takes c 0) p) (λ p. p ≡ 1)
-place_by takes = record { rows = one_row; takes = λ c p lt. same_has (get_or takes c 0) p; accepts = place_one_members }
+place_by takes = record { rows = one_row; takes = λ c p lt. (own_members (get_or takes c 0)).at p; accepts = place_one_members }

@@ -1,6 +1,7 @@
 pub mod ClassSymbols
 pub mod Combining
 pub mod Copies
+pub mod Filling
 pub mod Later
 pub mod Lawful
 pub mod Lettering

@@ -1,10 +1,10 @@
 -- The tables of an expression from those of its parts: the laws of first, last and follow sets, by members. Assumes nothing.
 --
 --   TablesBy r R T A   r has p in row q where R q p, among the takers of c where T c p, among the accepting states where A p
---   Later n a r    a's places, each n numbers later
---   Then a b r     a and then b, whose places come later: what b begins with follows each state at which a accepts
+--   Later n a r    a's places, each n numbers later; LaterRow n a q p: p is in row q
+--   Then a b r     a and then b, whose places come later: what b begins with follows each state at which a accepts; ThenRow a b q p
 --   Either a b r   a or b, whose places come later
---   Loops a r      a any number of times: what a begins with follows each state at which it accepts
+--   Loops a r      a any number of times: what a begins with follows each state at which it accepts; LoopRow a q p
 --   Passes a r     a or nothing
 use Rattle.std.specs.Prelude.{◌≡◌, ℕ, ◌-◌, ◌<◌, ◌≤◌, ◌⊎◌, ◌↔◌, slice_index}
 use Rattle.machines.specs.declared.tables.Tables.{Tables}
@@ -21,17 +21,23 @@ pub record TablesBy (r : Tables) (R T : ℕ → ℕ → Type 0) (A : ℕ → Typ
   pub takes : (c p : ℕ) → c < 256 → Has (takers r c) p ↔ T c p
   pub accepts : (p : ℕ) → Has r.accepts p ↔ A p
 
+abbrev pub LaterRow : ℕ → Tables → ℕ → ℕ → Type 0
+LaterRow n a q p = ((q ≡ 0) ⊎ (n < q)) × After n (nexts a (q - n)) p
+
 abbrev pub Later : ℕ → Tables → Tables → Type 0
 Later n a r =
     TablesBy r
-    (λ q p. ((q ≡ 0) ⊎ (n < q)) × After n (nexts a (q - n)) p)
+    (LaterRow n a)
     (λ c p. After n (takers a c) p)
     (λ p. ((p ≡ 0) × Has a.accepts 0) ⊎ After n a.accepts p)
+
+abbrev pub ThenRow : Tables → Tables → ℕ → ℕ → Type 0
+ThenRow a b q p = Has (nexts a q) p ⊎ ((Has a.accepts q × Has (nexts b 0) p) ⊎ ((1 ≤ q) × Has (nexts b q) p))
 
 abbrev pub Then : Tables → Tables → Tables → Type 0
 Then a b r =
     TablesBy r
-    (λ q p. Has (nexts a q) p ⊎ ((Has a.accepts q × Has (nexts b 0) p) ⊎ ((1 ≤ q) × Has (nexts b q) p)))
+    (ThenRow a b)
     (λ c p. Has (takers a c) p ⊎ Has (takers b c) p)
     (λ p. ((1 ≤ p) × Has b.accepts p) ⊎ (Has b.accepts 0 × Has a.accepts p))
 
@@ -42,10 +48,13 @@ Either a b r =
     (λ c p. Has (takers a c) p ⊎ Has (takers b c) p)
     (λ p. Has a.accepts p ⊎ Has b.accepts p)
 
+abbrev pub LoopRow : Tables → ℕ → ℕ → Type 0
+LoopRow a q p = Has (nexts a q) p ⊎ (Has a.accepts q × Has (nexts a 0) p)
+
 abbrev pub Loops : Tables → Tables → Type 0
 Loops a r =
     TablesBy r
-    (λ q p. Has (nexts a q) p ⊎ (Has a.accepts q × Has (nexts a 0) p))
+    (LoopRow a)
     (λ c p. Has (takers a c) p)
     (λ p. Has a.accepts p ⊎ (p ≡ 0))
 

@@ -1,17 +1,25 @@
 -- Sets of states as masks: one number, bit q standing for state q. Assumes nothing.
 --
 --   Has mask q         state q is in the set
+--   Members mask P     the members of the set are the numbers that P holds of
+--   Only when mask p   p is in the set, and the test passes
 --   After n mask p     p is n numbers later than some place of the set
 --   union rows set n   the union of the rows of those members of the set that are below n
 --   gathered rows set  the union of the rows of the members of the set
 --   Gathered rows set r   r is that union, bit by bit
-use Rattle.std.specs.Prelude.{◌≡◌, ℕ, zero, suc, ◌-◌, ◌/◌, ◌%◌, ◌^◌, ◌<◌, cond, ◌↔◌, List, ◌==◌, bit_or, slice_index}
+use Rattle.std.specs.Prelude.{◌≡◌, ℕ, zero, suc, ◌-◌, ◌/◌, ◌%◌, ◌^◌, ◌<◌, Bool, true, cond, ◌↔◌, List, ◌==◌, bit_or, slice_index}
 
 abbrev pub bit : ℕ → ℕ → ℕ
 bit mask q = mask / 2 ^ q % 2
 
 abbrev pub Has : ℕ → ℕ → Type 0
 Has mask q = bit mask q ≡ 1
+
+pub record Members (mask : ℕ) (P : ℕ → Type 0) : Type 0 where
+  pub at : (p : ℕ) → Has mask p ↔ P p
+
+abbrev pub Only : Bool → ℕ → ℕ → Type 0
+Only when mask p = (when ≡ true) × Has mask p
 
 abbrev pub After : ℕ → ℕ → ℕ → Type 0
 After n mask p = (n < p) × (p < 64) × Has mask (p - n)

@@ -1,20 +1,18 @@
 // The tables of an expression from those of its parts.
-ghost use Rattle.std.specs.Prelude.{◌≡◌, ℕ, ◌-◌, ◌<◌, ◌≤◌, ◌⊎◌, ◌↔◌, slice_index};
-ghost use Rattle.machines.specs.Building.{nexts, TablesBy, Later, Then, Either, Loops, Passes};
-ghost use Rattle.machines.specs.Masks.{Has, After};
+ghost use Rattle.std.specs.Prelude.{◌≡◌, ℕ, ◌<◌, ◌⊎◌, ◌↔◌, slice_index};
+ghost use Rattle.machines.specs.Building.{TablesBy, LaterRow, Later, ThenRow, Then, Either, LoopRow, Loops, Passes};
+ghost use Rattle.machines.specs.Masks.{Has, Members};
 
 use crate::masks::{has, later, only, places};
 use crate::tables::Tables;
+use std::array;
 
-// Who takes a byte in one table or in another.
-pub(crate) fn both(a: &[u64; 256], b: &[u64; 256]) -> [u64; 256]
-    ensures members { (c p : ℕ) → c < 256 → Has (slice_index result c) p ↔ (Has (slice_index a.now c) p ⊎ Has (slice_index b.now c) p) }
+// The union of two tables, row by row.
+pub(crate) fn both<const N: usize>(a: &[u64; N], b: &[u64; N]) -> [u64; N]
+    ensures members { (k p : ℕ) → k < N → Has (slice_index result k) p ↔ (Has (slice_index a.now k) p ⊎ Has (slice_index b.now k) p) }
 {
-    let mut takes = [0; 256];
-    for c in 0..256 {
-        takes[c] = a[c] | b[c];
-    }
-    takes
+    let (a, b) = (&a[..], &b[..]);
+    array::from_fn(|k| a[k] | b[k])
 }
 
 impl Tables {
@@ -44,7 +42,7 @@ impl Tables {
 
     fn later_row(&self, by: usize, q: usize) -> u64
         requires within { (by < 64) × (q < 64) }
-        ensures members { (p : ℕ) → Has result p ↔ (((q ≡ 0) ⊎ (by < q)) × After by (nexts self.now (q - by)) p) }
+        ensures members { Members result (LaterRow by self.now q) }
     {
         let from = q.saturating_sub(by);
         only(later(self.follow[from], by), (q == 0) | (q > by))
@@ -55,24 +53,16 @@ impl Tables {
         requires within { by < 64 }
         ensures members { Later by self.now result }
     {
-        let mut follow = [0; 64];
-        for q in 0..64 {
-            follow[q] = self.later_row(by, q);
-        }
-        let mut takes = [0; 256];
-        for c in 0..256 {
-            takes[c] = later(self.takes[c], by);
-        }
         Tables {
-            follow,
-            takes,
+            follow: array::from_fn(|q| self.later_row(by, q)),
+            takes: array::from_fn(|c| later(self.takes[c], by)),
             accepts: only(1, has(self.accepts, 0)) | later(self.accepts, by),
         }
     }
 
     fn then_row(&self, second: &Tables, q: usize) -> u64
         requires within { q < 64 }
-        ensures members { (p : ℕ) → Has result p ↔ (Has (nexts self.now q) p ⊎ ((Has self.now.accepts q × Has (nexts second.now 0) p) ⊎ ((1 ≤ q) × Has (nexts second.now q) p))) }
+        ensures members { Members result (ThenRow self.now second.now q) }
     {
         let across = only(second.follow[0], has(self.accepts, q));
         self.follow[q] | (across | only(second.follow[q], q > 0))
@@ -82,13 +72,9 @@ impl Tables {
     pub(crate) fn then(&self, second: &Tables) -> Tables
         ensures members { Then self.now second.now result }
     {
-        let mut follow = [0; 64];
-        for q in 0..64 {
-            follow[q] = self.then_row(second, q);
-        }
         let own = only(self.accepts, has(second.accepts, 0));
         Tables {
-            follow,
+            follow: array::from_fn(|q| self.then_row(second, q)),
             takes: both(&self.takes, &second.takes),
             accepts: places(second.accepts) | own,
         }
@@ -98,27 +84,26 @@ impl Tables {
     pub(crate) fn either(&self, other: &Tables) -> Tables
         ensures members { Either self.now other.now result }
     {
-        let mut follow = [0; 64];
-        for q in 0..64 {
-            follow[q] = self.follow[q] | other.follow[q];
-        }
         Tables {
-            follow,
+            follow: both(&self.follow, &other.follow),
             takes: both(&self.takes, &other.takes),
             accepts: self.accepts | other.accepts,
         }
+    }
+
+    fn looped_row(&self, q: usize) -> u64
+        requires within { q < 64 }
+        ensures members { Members result (LoopRow self.now q) }
+    {
+        self.follow[q] | only(self.follow[0], has(self.accepts, q))
     }
 
     // This any number of times.
     pub(crate) fn looped(&self) -> Tables
         ensures members { Loops self.now result }
     {
-        let mut follow = [0; 64];
-        for q in 0..64 {
-            follow[q] = self.follow[q] | only(self.follow[0], has(self.accepts, q));
-        }
         Tables {
-            follow,
+            follow: array::from_fn(|q| self.looped_row(q)),
             takes: self.takes,
             accepts: self.accepts | 1,
         }

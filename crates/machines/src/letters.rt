@@ -6,16 +6,13 @@ ghost use Rattle.machines.specs.Masks.{Has};
 
 use crate::combine::both;
 use crate::masks::only;
+use std::array;
 
 // Place 1 takes the bytes from `low` to `high`.
 fn between(low: u8, high: u8) -> [u64; 256]
     ensures members { (c p : ℕ) → c < 256 → Has (slice_index result c) p ↔ ((p ≡ 1) × ((low ≤ c) × (c ≤ high))) }
 {
-    let mut takes = [0; 256];
-    for c in 0..256 {
-        takes[c] = only(2, (low as usize <= c) & (c <= high as usize));
-    }
-    takes
+    array::from_fn(|c| only(2, (low as usize <= c) & (c <= high as usize)))
 }
 
 // Row c has place 1 if byte c is taken: at least one is.

@@ -1,6 +1,6 @@
 // Sets of states as masks, bit q standing for state q.
 ghost use Rattle.std.specs.Prelude.{◌≡◌, ℕ, ◌<◌, ◌≤◌, true, ◌↔◌, Decides};
-ghost use Rattle.machines.specs.Masks.{Has, After, gathered, Gathered};
+ghost use Rattle.machines.specs.Masks.{Has, Members, Only, After, gathered, Gathered};
 
 // The union of the rows of the members of `set`, one turn to a member.
 pub(crate) fn gather(rows: &[u64; 64], set: u64) -> u64
@@ -27,14 +27,14 @@ pub(crate) fn has(set: u64, q: usize) -> bool
 
 // The set, or the empty one.
 pub(crate) fn only(set: u64, when: bool) -> u64
-    ensures members { (p : ℕ) → Has result p ↔ ((when ≡ true) × Has set p) }
+    ensures members { Members result (Only when set) }
 {
     if when { set } else { 0 }
 }
 
 // The set without state 0, which is no place.
 pub(crate) fn places(set: u64) -> u64
-    ensures members { (p : ℕ) → Has result p ↔ ((1 ≤ p) × Has set p) }
+    ensures members { Members result (λ p. (1 ≤ p) × Has set p) }
 {
     (set >> 1) << 1
 }
@@ -42,7 +42,7 @@ pub(crate) fn places(set: u64) -> u64
 // The places of the set, each `by` numbers later.
 pub(crate) fn later(set: u64, by: usize) -> u64
     requires within { by < 64 }
-    ensures members { (p : ℕ) → Has result p ↔ After by set p }
+    ensures members { Members result (After by set) }
 {
     ((set >> 1) << by) << 1
 }

@@ -11,6 +11,7 @@ use crate::placeno::PlaceNo;
 use crate::relation::Relation;
 use crate::tables::Tables;
 use folding::fold::{Folding, Judging};
+use std::array;
 
 #[derive(Clone, Copy)]
 pub struct PlaceMachine {
@@ -45,11 +46,9 @@ impl Folding for PlaceMachine {
 
     fn step(&self, at: &Relation, c: u8) -> Relation {
         let takes = self.tables.takes[c as usize];
-        let mut rows = [0; 64];
-        for q in 0..64 {
-            rows[q] = masks::gather(&self.tables.follow, at.rows[q]) & takes;
+        Relation {
+            rows: array::from_fn(|q| masks::gather(&self.tables.follow, at.rows[q]) & takes),
         }
-        Relation { rows }
     }
 
     fn join(&self, first: &Relation, second: &Relation) -> Relation {

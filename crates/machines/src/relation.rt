@@ -4,6 +4,7 @@ ghost use Rattle.machines.specs.Relations.{composed, identity as identity_relati
 
 use crate::masks;
 use crate::placeno::PlaceNo;
+use std::array;
 
 // Row q is the set of states that q leads to.
 #[derive(Clone, Copy)]
@@ -16,11 +17,9 @@ impl Relation {
     pub fn identity() -> Relation
         ensures value { result ≡ identity_relation }
     {
-        let mut rows = [0; 64];
-        for q in 0..64 {
-            rows[q] = 1 << q;
+        Relation {
+            rows: array::from_fn(|q| 1 << q),
         }
-        Relation { rows }
     }
 
     // The states that `of` leads to.
@@ -36,10 +35,8 @@ impl Relation {
         ensures members { Composes self.now second.now result }
         ensures associative { Associative }
     {
-        let mut rows = [0; 64];
-        for q in 0..64 {
-            rows[q] = masks::gather(&second.rows, self.rows[q]);
+        Relation {
+            rows: array::from_fn(|q| masks::gather(&second.rows, self.rows[q])),
         }
-        Relation { rows }
     }
 }

@@ -1,18 +1,20 @@
-use Rattle.std.proofs.Common.{◌⊎◌, get_or}
-use Rattle.machines.specs.Masks.{Has}
-use Rattle.machines.specs.Shown.Members.{or_members}
-use Rattle.machines.specs.Shown.Rows.{filled_by_more, filled_by_all}
+use Rattle.std.proofs.Common.{◌≡◌, ◌⊎◌, get_or, sym, subst, rules}
+use lib.Bits.{bit_or}
+use Rattle.machines.specs.Masks.{Has, Members}
+use Rattle.machines.proofs.Combining.{either_members, own_members}
+use Rattle.machines.proofs.Filling.{rows_by}
 use Rattle.machines.proofs.combine.both.Goals as goal
 
-pub loop-c-preserved : goal.loop-c-preserved
-loop-c-preserved c =
-    let a = c.args.a.now in
-    let b = c.args.b.now in
-    let i = c.loop-c.c in
-    filled_by_more 256 (λ c p. Has (get_or a c 0) p ⊎ Has (get_or b c 0) p) c.loop-c.takes i _ c.loop-c-test.true c.loop-c.invariant (or_members (get_or a i 0) (get_or b i 0))
-
 pub returns : goal.returns
-returns c =
+returns g c =
     let a = c.args.a.now in
     let b = c.args.b.now in
-    record { members = filled_by_all 256 (λ c p. Has (get_or a c 0) p ⊎ Has (get_or b c 0) p) c.loop-c.takes c.loop-c.c c.loop-c-test.false c.loop-c.invariant }
+    record {
+      members =
+          rows_by (λ k p. Has (get_or a k 0) p ⊎ Has (get_or b k 0) p) c.from_fn.ensures.items (λ i y f lt h. search rules)
+          (λ i y f lt h.
+          let x = get_or a i 0 in
+          let z = get_or b i 0 in
+          let is : y ≡ bit_or x z = search rules in
+          subst (λ v. Members v (λ p. Has x p ⊎ Has z p)) (sym is) (either_members x z (own_members x) (own_members z)));
+    }

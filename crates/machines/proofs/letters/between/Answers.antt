@@ -1,17 +1,15 @@
-use Rattle.std.proofs.Common.{◌≡◌, ◌≤◌}
-use Rattle.machines.proofs.Combining.{range_has}
-use Rattle.machines.specs.Shown.Rows.{filled_by_more, filled_by_all}
+use Rattle.std.proofs.Common.{◌≡◌, ◌≤◌, ◌&&◌, leb, rules}
+use Rattle.machines.specs.Masks.{Members, Only}
+use Rattle.machines.proofs.Combining.{range_members}
+use Rattle.machines.proofs.Filling.{rows_by}
 use Rattle.machines.proofs.letters.between.Goals as goal
-
-pub loop-c-preserved : goal.loop-c-preserved
-loop-c-preserved c =
-    let low = c.args.low in
-    let high = c.args.high in
-    let i = c.loop-c.c in
-    filled_by_more 256 (λ c p. (p ≡ 1) × ((low ≤ c) × (c ≤ high))) c.loop-c.takes i _ c.loop-c-test.true c.loop-c.invariant (λ p. range_has c.only.result p low i high (c.only.ensures.members p))
 
 pub returns : goal.returns
 returns c =
     let low = c.args.low in
     let high = c.args.high in
-    record { members = filled_by_all 256 (λ c p. (p ≡ 1) × ((low ≤ c) × (c ≤ high))) c.loop-c.takes c.loop-c.c c.loop-c-test.false c.loop-c.invariant }
+    record {
+      members =
+          rows_by (λ k p. (p ≡ 1) × ((low ≤ k) × (k ≤ high))) c.from_fn.ensures.items (λ i y f lt h. search rules)
+          (λ i y f lt h. let is : Members y (Only (leb low i && leb i high) 2) = search rules in range_members y low i high is);
+    }

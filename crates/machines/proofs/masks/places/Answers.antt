@@ -2,4 +2,4 @@ use Rattle.machines.proofs.Shifts.{places_members}
 use Rattle.machines.proofs.masks.places.Goals as goal
 
 pub returns : goal.returns
-returns c = record { members = λ p. places_members c.args.set p c.ranges.set.fits }
+returns c = record { members = record { at = λ p. places_members c.args.set p c.ranges.set.fits } }

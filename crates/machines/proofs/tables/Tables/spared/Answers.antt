@@ -1,6 +1,5 @@
 use Rattle.machines.specs.Building.{nexts, takers}
-use Rattle.machines.proofs.Combining.{either_has, same_has}
-use Rattle.machines.specs.Shown.Members.{zeroth_members}
+use Rattle.machines.proofs.Combining.{either_members, own_members, zeroth}
 use Rattle.machines.proofs.tables.Tables.spared.Goals as goal
 
 pub returns : goal.returns
@@ -8,8 +7,8 @@ returns c =
     let a = c.args.self.now in
     record {
       members = record {
-        rows = λ q p lt. same_has (nexts a q) p;
-        takes = λ k p lt. same_has (takers a k) p;
-        accepts = λ p. either_has a.accepts 1 p (same_has a.accepts p) (zeroth_members p);
+        rows = λ q p lt. (own_members (nexts a q)).at p;
+        takes = λ k p lt. (own_members (takers a k)).at p;
+        accepts = (either_members a.accepts 1 (own_members a.accepts) zeroth).at;
       };
     }

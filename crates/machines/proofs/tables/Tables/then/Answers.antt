@@ -1,15 +1,8 @@
-use Rattle.std.proofs.Common.{◌≤◌, ◌⊎◌}
-use Rattle.machines.specs.Building.{nexts}
-use Rattle.machines.specs.Masks.{Has}
-use Rattle.machines.proofs.Combining.{either_has, only_has, same_has}
-use Rattle.machines.specs.Shown.Rows.{filled_by_more, filled_by_all}
+use Rattle.std.proofs.Common.{rules}
+use Rattle.machines.specs.Building.{ThenRow}
+use Rattle.machines.proofs.Combining.{either_members, only_members, own_members}
+use Rattle.machines.proofs.Filling.{rows_by}
 use Rattle.machines.proofs.tables.Tables.then.Goals as goal
-
-pub loop-q-preserved : goal.loop-q-preserved
-loop-q-preserved c =
-    let a = c.args.self.now in
-    let b = c.args.second.now in
-    filled_by_more 64 (λ q p. Has (nexts a q) p ⊎ ((Has a.accepts q × Has (nexts b 0) p) ⊎ ((1 ≤ q) × Has (nexts b q) p))) c.loop-q.follow c.loop-q.q _ c.loop-q-test.true c.loop-q.invariant c.then_row.ensures.members
 
 pub returns : goal.returns
 returns c =
@@ -17,10 +10,10 @@ returns c =
     let b = c.args.second.now in
     record {
       members = record {
-        rows = filled_by_all 64 (λ q p. Has (nexts a q) p ⊎ ((Has a.accepts q × Has (nexts b 0) p) ⊎ ((1 ≤ q) × Has (nexts b q) p))) c.loop-q.follow c.loop-q.q c.loop-q-test.false c.loop-q.invariant;
+        rows = rows_by (ThenRow a b) c.from_fn.ensures.items (λ i y f lt h. search rules) (λ i y f lt h. search rules);
         takes = c.both.ensures.members;
-        accepts = λ p.
-            either_has c.places.result c.only-own.result p (c.places.ensures.members p)
-            (only_has c.only-own.result a.accepts p c.has.result (c.only-own.ensures.members p) c.has.ensures.cases (same_has a.accepts p));
+        accepts =
+            (either_members c.places.result c.only-own.result c.places.ensures.members
+            (only_members c.only-own.result a.accepts c.has.result c.only-own.ensures.members c.has.ensures.cases (own_members a.accepts))).at;
       };
     }
