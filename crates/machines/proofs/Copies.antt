@@ -2,33 +2,19 @@
 use Rattle.std.proofs.Common.{◌≡◌, ℕ, zero, suc, ◌+◌, ◌-◌, ◌*◌, ◌≤◌, sym, refl, ap, ◌∙◌, subst, suc-mul, add-mul, zero-mul, arith}
 use Rattle.pattern.specs.Expressions.{Expr, empty, seq, opt, counted, Regex}
 use Rattle.pattern.specs.Places.{places}
-use Rattle.machines.specs.declared.tables.Tables.{Tables}
-use Rattle.machines.specs.Fragments.{Represents}
+use Rattle.machines.specs.declared.fragment.Fragment.{Fragment}
 use Rattle.machines.specs.Soundness.{Sane}
-use Rattle.machines.specs.Spellings.{row, spread}
-use Rattle.machines.proofs.Parts.{same_part}
-
-pub copies : {S : Type 0} → ℕ → Expr S → Expr S
-copies zero e = empty
-copies (suc n) e = seq e (copies n e)
+use Rattle.machines.specs.Spellings.{copies, row, spread}
+use Rattle.machines.specs.Standing.{StandsFor}
+use Rattle.machines.proofs.Standing.{same_stands}
 
 places_copies : {S : Type 0} (n : ℕ) (e : Expr S) → places (copies n e) ≡ n * places e
-unfolding copies
 places_copies zero e = sym (zero-mul (places e))
 places_copies (suc n) e = let z = suc-mul n (places e) in let i = places_copies n e in omega arith
 
 spread_copies : {S : Type 0} (n : ℕ) (e : Expr S) (k : ℕ) → spread k (copies n e) ≡ row (λ j. spread j e) (places e) n k
-unfolding copies
 spread_copies zero e k = refl
 spread_copies (suc n) e k = ap (seq (spread k e)) (spread_copies n e (k + places e))
-
-pub copies_none : (e : Regex) (t : Tables) (n : ℕ) → Represents empty t n → Represents (copies 0 e) t n
-unfolding copies
-copies_none e t n x = x
-
-pub copies_more : (e : Regex) (t : Tables) (n i : ℕ) → Represents (seq e (copies i e)) t n → Represents (copies (i + 1) e) t n
-unfolding copies
-copies_more e t n i x = subst (λ k. Represents (copies k e) t n) (let s : suc i ≡ i + 1 = omega arith in s) x
 
 spread_counted : (m n : ℕ) (e : Regex) → spread 1 (seq (copies m e) (copies (n - m) (opt e))) ≡ spread 1 (counted m n e)
 spread_counted m n e =
@@ -36,9 +22,9 @@ spread_counted m n e =
     ap (λ k. spread (1 + k) (copies (n - m) (opt e))) (places_copies m e) ∙ spread_copies (n - m) (opt e) (1 + m * places e) in
     λ i. seq (spread_copies m e 1 i) (second i)
 
-pub counted_part : (m n : ℕ) (e : Regex) (t : Tables) (k : ℕ) → m ≤ n → Sane e → Represents (seq (copies m e) (copies (n - m) (opt e))) t k → Represents (counted m n e) t k
-counted_part m n e t k le sane x =
+pub counted_stands : (m n : ℕ) (e : Regex) (f : Fragment) → m ≤ n → Sane e → StandsFor (seq (copies m e) (copies (n - m) (opt e))) f → StandsFor (counted m n e) f
+counted_stands m n e f le sane x =
     let all : m * places e + (n - m) * places e ≡ n * places e = sym (add-mul m (n - m) (places e)) ∙ ap (λ y. y * places e) (let s : m + (n - m) ≡ n = omega arith in s) in
     let first = places_copies m e in
     let second = places_copies (n - m) (opt e) in
-    same_part (seq (copies m e) (copies (n - m) (opt e))) (counted m n e) t k (le, sane) (omega arith) (spread_counted m n e) x
+    same_stands (seq (copies m e) (copies (n - m) (opt e))) (counted m n e) (λ _. (le, sane)) (omega arith) (spread_counted m n e) f x

@@ -9,6 +9,7 @@ pub mod Looping
 pub mod Moving
 pub mod Parts
 pub mod Shifts
+pub mod Standing
 pub mod Tabling
 pub mod Uniting
 pub mod Whole

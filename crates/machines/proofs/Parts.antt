@@ -9,6 +9,7 @@ use Rattle.machines.specs.Building.{TablesBy, Later, Then, Either, Loops, Passes
 use Rattle.machines.specs.Fragments.{Represents, Part}
 use Rattle.machines.specs.Letters.{LettersOf, SomeLetters}
 use Rattle.machines.specs.Masks.{Has}
+use Rattle.machines.specs.Making.{Changes, Joins}
 use Rattle.machines.specs.PlaceTables.{Made}
 use Rattle.machines.specs.Soundness.{Sane, TakesSome}
 use Rattle.machines.specs.Spellings.{Place, spread, Spelling, SpellingFrom}
@@ -122,9 +123,6 @@ same_part e e' t n sane same written x = record {
   tables = λ few. of_for e' t few (subst (λ w. TablesFor (Means {S = Place Symbol} {A = Place Symbol} (λ p q. p ≡ q) w) t) written (for_of e t (x.tables (omega arith))));
 }
 
-pub plus_part : (e : Regex) (t : Tables) (n : ℕ) → Sane e → Represents (seq e (star e)) t n → Represents (plus e) t n
-plus_part e t n sane x = same_part (seq e (star e)) (plus e) t n sane (omega arith) refl x
-
 -- what is made of parts is a part
 
 pub part_one : (make : Regex → Regex) (a r : Tables) (m k : ℕ) → Part a m → ((e : Regex) → Represents e a m → Represents (make e) r k) → Part r k
@@ -136,3 +134,37 @@ part_two make a b r m n k x y step = ∥∥₁_map₂ x y (λ u v. (make u.0 v.0
 -- a part with at most 63 places makes a machine
 pub part_made : (t : Tables) (n : ℕ) → n ≤ 63 → Part t n → Made t
 part_made t n le part = ∥∥₁_map part (λ x. (x.0, x.1.sane, x.1.tables (let c = x.1.count in omega arith)))
+
+-- what operations make, from references to the tables too
+
+pub then_joins : (by : Tables → Tables → Tables → Type 0) → ((a b r : Tables) → by a b r → (x : Tables) × (y : Tables) × Then x y r × (x ≡ a) × (y ≡ b)) → Joins seq by
+then_joins by is = record {
+  sane = λ e f x y. (x, y);
+  places = λ e f. refl;
+  tables = λ e f a b moved r m n x y room behind h.
+      let (a', moved', made, first, second) = is a moved r h in
+      then_part e f a b moved r m n x y room behind (subst (λ z. Then z moved r) first (subst (λ z. Then a' z r) second made));
+}
+
+pub either_joins : (by : Tables → Tables → Tables → Type 0) → ((a b r : Tables) → by a b r → (x : Tables) × (y : Tables) × Either x y r × (x ≡ a) × (y ≡ b)) → Joins alt by
+either_joins by is = record {
+  sane = λ e f x y. (x, y);
+  places = λ e f. refl;
+  tables = λ e f a b moved r m n x y room behind h.
+      let (a', moved', made, first, second) = is a moved r h in
+      either_part e f a b moved r m n x y room behind (subst (λ z. Either z moved r) first (subst (λ z. Either a' z r) second made));
+}
+
+pub star_changes : (by : Tables → Tables → Type 0) → ((a r : Tables) → by a r → (x : Tables) × Loops x r × (x ≡ a)) → Changes star by
+star_changes by is = record {
+  sane = λ e x. x;
+  places = λ e. refl;
+  tables = λ e a r n x h. let (a', made, same) = is a r h in star_part e a r n x (subst (λ z. Loops z r) same made);
+}
+
+pub opt_changes : (by : Tables → Tables → Type 0) → ((a r : Tables) → by a r → (x : Tables) × Passes x r × (x ≡ a)) → Changes opt by
+opt_changes by is = record {
+  sane = λ e x. x;
+  places = λ e. refl;
+  tables = λ e a r n x h. let (a', made, same) = is a r h in opt_part e a r n x (subst (λ z. Passes z r) same made);
+}

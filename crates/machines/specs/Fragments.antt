@@ -2,7 +2,8 @@
 --
 --   Represents e t n   n is the number of e's places, or 64 if there are more than 63; up to 63, t is e's machine
 --   Part t n           t and n represent some expression
-use Rattle.std.specs.Prelude.{◌≡◌, ℕ, ◌≤◌, min}
+--   TooMany e          e has more than 63 places
+use Rattle.std.specs.Prelude.{◌≡◌, ℕ, ◌<◌, ◌≤◌, min}
 use Rattle.pattern.specs.Expressions.{Regex}
 use Rattle.pattern.specs.Places.{places}
 use Rattle.machines.specs.declared.tables.Tables.{Tables}
@@ -16,3 +17,6 @@ pub record Represents (e : Regex) (t : Tables) (n : ℕ) : Type 0 where
 
 abbrev pub Part : Tables → ℕ → Type 0
 Part t n = ∥ ((e : Regex) × Represents e t n) ∥₁
+
+abbrev pub TooMany : Regex → Type 0
+TooMany e = Sane e × (63 < places e)

@@ -3,6 +3,7 @@ pub mod Fragments
 pub mod Gathered
 pub mod Laws
 pub mod Letters
+pub mod Making
 pub mod Masks
 pub mod PlaceTables
 pub mod Relations

@@ -2,6 +2,7 @@
 --
 --   Place S     a place: its number and its symbol
 --   spread k e  e with the copies that `+` and counts stand for written out, its places numbered from k, left to right
+--   copies n e  e, n times in a row
 --   Spelling e  the sequences of places that e, written out from place 1, allows
 --   First L p   p comes first in some member of L;  Ends L p: p ends one;  On L p: p stands in one
 --   Follows L q p  p stands directly after q in some member of L
@@ -12,6 +13,11 @@ use Rattle.pattern.specs.Places.{places}
 
 abbrev pub Place : Type 0 → Type 0
 Place S = ℕ × S
+
+-- n times e
+abbrev pub copies : {S : Type 0} → ℕ → Expr S → Expr S
+copies zero e = empty
+copies (suc n) e = seq e (copies n e)
 
 -- n parts in a row, the first from place k on, each `width` places long
 abbrev pub row : {X : Type 0} → (ℕ → Expr X) → ℕ → ℕ → ℕ → Expr X

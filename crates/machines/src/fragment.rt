@@ -1,15 +1,161 @@
-// The part of a machine that stands for a part of a pattern.
+// The part of a machine that stands for a part of a pattern. Parts are values, so that repeats
+// within repeats cost a few joins each and not their product.
 ghost use Rattle.std.specs.Prelude.{◌≤◌};
 ghost use Rattle.machines.specs.Fragments.{Part};
 
+use crate::gathered::ClassLetters;
+use crate::letters::Letters;
 use crate::tables::Tables;
+use pattern::assembly::Assembly;
 
-// The tables of the part alone, its places numbered from 1. Past 63 places the count stays at 64
-// and the tables mean nothing: only a count of 0 makes a part of that again.
+// The tables of the part alone, its places numbered from 1.
+#[derive(Clone, Copy)]
+pub struct Numbered {
+    pub(crate) tables: Tables,
+    count: u8,
+    ghost small: { count ≤ 63 },
+    ghost part: { Part tables count },
+}
+
+// None past 63 places: only a count of 0 makes a part of that again.
 #[derive(Clone, Copy)]
 pub struct Fragment {
-    pub(crate) tables: Tables,
-    pub(crate) count: u8,
-    ghost small: { count ≤ 64 },
-    ghost part: { Part tables count },
+    pub(crate) part: Option<Numbered>,
+}
+
+impl Fragment {
+    ghost use Rattle.std.specs.Prelude.{◌≤◌};
+    ghost use Rattle.std.specs.Fn.{FnOnceReturnsAt, FnOnceReturnsAtPair};
+    ghost use Rattle.pattern.specs.Expressions.{Regex, Symbol, one};
+    ghost use Rattle.machines.specs.Letters.{LettersOf};
+    ghost use Rattle.machines.specs.Making.{Changes, ChangesSome, Joins, JoinsSome};
+    ghost use Rattle.machines.specs.Soundness.{TakesSome};
+    ghost use Rattle.machines.specs.Spellings.{copies};
+    ghost use Rattle.machines.specs.Standing.{StandsFor};
+
+    // One place.
+    fn place(letters: &Letters) -> Fragment
+        ensures value { (s : Symbol) → TakesSome s → LettersOf s letters.now.takes → StandsFor (one s) result }
+    {
+        Fragment {
+            part: Some(Numbered {
+                tables: Tables::place(letters.takes),
+                count: 1,
+            }),
+        }
+    }
+
+    // This alone, its tables changed by the operation.
+    fn changed<F: FnOnce(&Tables) -> Tables + Drop>(&self, operation: F) -> Fragment
+        requires callable { F.IsAlwaysCallable operation }
+        requires makes { ChangesSome (FnOnceReturnsAt F.FnOnce operation) }
+        ensures value { (make : Regex → Regex) → Changes make (FnOnceReturnsAt F.FnOnce operation) → (e : Regex) → StandsFor e self.now → StandsFor (make e) result }
+    {
+        let Some(own) = self.part else {
+            return Fragment { part: None };
+        };
+        Fragment {
+            part: Some(Numbered {
+                tables: operation(&own.tables),
+                count: own.count,
+            }),
+        }
+    }
+
+    // This and `second` by the operation, the places of `second` numbered after those of this.
+    fn joined<F: FnOnce(&Tables, &Tables) -> Tables + Drop>(
+        &self,
+        second: &Fragment,
+        operation: F,
+    ) -> Fragment
+        requires callable { F.IsAlwaysCallable operation }
+        requires makes { JoinsSome (FnOnceReturnsAtPair F.FnOnce operation) }
+        ensures value { (make : Regex → Regex → Regex) → Joins make (FnOnceReturnsAtPair F.FnOnce operation) → (e f : Regex) → StandsFor e self.now → StandsFor f second.now → StandsFor (make e f) result }
+    {
+        let Some(first) = self.part else {
+            return Fragment { part: None };
+        };
+        let Some(other) = second.part else {
+            return Fragment { part: None };
+        };
+        let count = first.count + other.count;
+        if count > 63 {
+            return Fragment { part: None };
+        }
+        let moved = other.tables.later(first.count as usize);
+        Fragment {
+            part: Some(Numbered {
+                tables: operation(&first.tables, &moved),
+                count,
+            }),
+        }
+    }
+
+    // So many copies, one after the other.
+    fn repeated(&self, times: u8) -> Fragment
+        ensures value { (e : Regex) → StandsFor e self.now → StandsFor (copies times e) result }
+    {
+        let mut all = Fragment::nothing();
+        for _ in 0..times {
+            all = self.then(&all);
+        }
+        all
+    }
+}
+
+impl Assembly for Fragment {
+    ghost use Rattle.machines.specs.Standing.{StandsFor};
+
+    type Letters = ClassLetters;
+
+    ghost stands = { λ f e. StandsFor e f };
+
+    fn nothing() -> Fragment {
+        Fragment {
+            part: Some(Numbered {
+                tables: Tables::none(),
+                count: 0,
+            }),
+        }
+    }
+
+    fn byte(b: u8) -> Fragment {
+        Fragment::place(&Letters::byte(b))
+    }
+
+    fn any() -> Fragment {
+        Fragment::place(&Letters::byte(0).with(0, 255))
+    }
+
+    fn class(letters: &ClassLetters) -> Fragment {
+        match letters.letters {
+            Some(some) => Fragment::place(&some),
+            None => Fragment::nothing(),
+        }
+    }
+
+    fn then(&self, second: &Fragment) -> Fragment {
+        self.joined(second, |a, b| a.then(b))
+    }
+
+    fn either(&self, other: &Fragment) -> Fragment {
+        self.joined(other, |a, b| a.either(b))
+    }
+
+    fn star(&self) -> Fragment {
+        self.changed(|a| a.looped())
+    }
+
+    fn plus(&self) -> Fragment {
+        self.then(&self.star())
+    }
+
+    fn optional(&self) -> Fragment {
+        self.changed(|a| a.spared())
+    }
+
+    fn counted(&self, least: u8, most: u8) -> Fragment {
+        let spare = self.optional().repeated(most.saturating_sub(least));
+        self.repeated(least).then(&spare)
+    }
 }

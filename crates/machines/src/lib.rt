@@ -2,7 +2,6 @@
 #![tactic(auto)]
 
 pub mod assembling;
-pub mod build;
 mod combine;
 pub mod fragment;
 pub mod gathered;
@@ -11,5 +10,4 @@ pub mod masks;
 pub mod place;
 pub mod placeno;
 pub mod relation;
-mod repeats;
 pub mod tables;

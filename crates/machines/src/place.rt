@@ -1,11 +1,11 @@
 // The place machine (the position automaton, Glushkov's): a judging machine whose leg of a text is
 // the relation between states that the text makes.
 ghost use Rattle.std.specs.Prelude.{◌≡◌};
-ghost use Rattle.machines.specs.Laws.{SpelledExactly, EachPlaceLives, MeansExactly, ReachesExactly, JoinsExactly, Neutral};
 ghost use Rattle.machines.specs.PlaceTables.{Made, Meant};
 ghost use Rattle.machines.specs.Runs.{leg as leg_of};
 ghost use Rattle.machines.specs.Shown.Machine.{made_inhabited};
 
+use crate::fragment::Numbered;
 use crate::masks;
 use crate::placeno::PlaceNo;
 use crate::relation::Relation;
@@ -20,18 +20,12 @@ pub struct PlaceMachine {
 }
 
 impl PlaceMachine {
-    // The tables are those of some expression.
-    pub(crate) fn new(tables: Tables) -> PlaceMachine
-        requires made { Made tables }
-        ensures tables { result.tables ≡ tables }
-        ensures means { MeansExactly result.tables }
-        ensures reaches { ReachesExactly result.tables }
-        ensures joins { JoinsExactly result.tables }
-        ensures neutral { Neutral result.tables }
-        ensures spelled { SpelledExactly }
-        ensures places { EachPlaceLives }
+    pub(crate) fn new(whole: Numbered) -> PlaceMachine
+        ensures tables { result.tables ≡ whole.tables }
     {
-        PlaceMachine { tables }
+        PlaceMachine {
+            tables: whole.tables,
+        }
     }
 }
 

@@ -1,6 +1,6 @@
 use Rattle.std.proofs.lemmas.Option.{MatchOption-at_none, MatchOption-at_some}
 use Rattle.machines.proofs.ClassSymbols.{members_some}
-use Rattle.machines.proofs.assembling.FragmentAssembly.class.Goals as goal
+use Rattle.machines.proofs.fragment.FragmentAssembly.class.Goals as goal
 
 pub returns-in-Some : goal.returns-in-Some
 returns-in-Some c = record { value = λ w rs ms some held. c.place.ensures.value rs (members_some ms some) (MatchOption-at_some _ _ _ c.in-Some.is held) }

@@ -1,7 +1,7 @@
-use Rattle.pattern.specs.Expressions.{empty}
 use Rattle.std.proofs.Common.{arith}
+use Rattle.pattern.specs.Expressions.{empty}
 use Rattle.machines.proofs.Parts.{empty_part}
-use Rattle.machines.proofs.fragment.Fragment.empty.Goals as goal
+use Rattle.machines.proofs.fragment.FragmentAssembly.nothing.Goals as goal
 
 pub invariant_of-result : goal.invariant_of-result
 invariant_of-result c = record { small = omega arith; part = ∣ (empty, empty_part c.none.result c.none.ensures.members) ∣₁ }

@@ -1,0 +1,17 @@
+use Rattle.std.proofs.Common.{◌-◌, subst}
+use Rattle.pattern.specs.Expressions.{opt}
+use Rattle.machines.specs.Spellings.{copies}
+use Rattle.machines.specs.Standing.{StandsFor}
+use Rattle.machines.proofs.Copies.{counted_stands}
+use Rattle.machines.proofs.Standing.{sane}
+use Rattle.machines.proofs.fragment.FragmentAssembly.counted.Goals as goal
+
+pub returns : goal.returns
+returns c = record {
+  value = λ e le x.
+      let m = c.args.least in
+      let n = c.args.most in
+      let spare = c.repeated-spare.ensures.value (opt e) (c.optional.ensures.value e x) in
+      counted_stands m n e c.then.result le (sane e c.args.self.now x)
+      (c.then.ensures.value (copies m e) (copies (n - m) (opt e)) (c.repeated.ensures.value e x) (subst (λ k. StandsFor (copies k (opt e)) c.repeated-spare.result) c.saturating_sub.ensures spare));
+}
