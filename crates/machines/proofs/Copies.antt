@@ -1,8 +1,8 @@
 -- A counted repeat as copies in a row: so many that must be there, and then some that may. Assumes nothing.
-use Rattle.std.proofs.Common.{◌≡◌, ℕ, zero, suc, ◌+◌, ◌-◌, ◌*◌, ◌≤◌, sym, refl, ap, ◌∙◌, subst, suc-mul, add-mul, zero-mul, arith}
+use Rattle.std.proofs.Common.{◌≡◌, ℕ, Option, zero, suc, ◌+◌, ◌-◌, ◌*◌, ◌≤◌, sym, refl, ap, ◌∙◌, subst, suc-mul, add-mul, zero-mul, arith}
 use Rattle.pattern.specs.Expressions.{Expr, empty, seq, opt, counted, Regex}
 use Rattle.pattern.specs.Places.{places}
-use Rattle.machines.specs.declared.fragment.Fragment.{Fragment}
+use Rattle.machines.specs.declared.fragment.Numbered.{Numbered}
 use Rattle.machines.specs.Soundness.{Sane}
 use Rattle.machines.specs.Spellings.{copies, row, spread}
 use Rattle.machines.specs.Standing.{StandsFor}
@@ -22,9 +22,9 @@ spread_counted m n e =
     ap (λ k. spread (1 + k) (copies (n - m) (opt e))) (places_copies m e) ∙ spread_copies (n - m) (opt e) (1 + m * places e) in
     λ i. seq (spread_copies m e 1 i) (second i)
 
-pub counted_stands : (m n : ℕ) (e : Regex) (f : Fragment) → m ≤ n → Sane e → StandsFor (seq (copies m e) (copies (n - m) (opt e))) f → StandsFor (counted m n e) f
-counted_stands m n e f le sane x =
+pub counted_stands : (m n : ℕ) (e : Regex) (o : Option Numbered) → m ≤ n → Sane e → StandsFor (seq (copies m e) (copies (n - m) (opt e))) o → StandsFor (counted m n e) o
+counted_stands m n e o le sane x =
     let all : m * places e + (n - m) * places e ≡ n * places e = sym (add-mul m (n - m) (places e)) ∙ ap (λ y. y * places e) (let s : m + (n - m) ≡ n = omega arith in s) in
     let first = places_copies m e in
     let second = places_copies (n - m) (opt e) in
-    same_stands (seq (copies m e) (copies (n - m) (opt e))) (counted m n e) (λ _. (le, sane)) (omega arith) (spread_counted m n e) f x
+    same_stands (seq (copies m e) (copies (n - m) (opt e))) (counted m n e) (λ _. (le, sane)) (omega arith) (spread_counted m n e) o x

@@ -1,10 +1,10 @@
--- What a fragment stands for, read off the fragment. Assumes nothing.
+-- What a part of a machine stands for. Assumes nothing.
 --
---   StandsFor e f   f's tables and count represent e, or f has none and e has more than 63 places
-use Rattle.std.specs.Prelude.{MatchOption}
+--   StandsFor e o   the tables and the count represent e, or there are none, and e has more than 63 places
+use Rattle.std.specs.Prelude.{Option, MatchOption}
 use Rattle.pattern.specs.Expressions.{Regex}
-use Rattle.machines.specs.declared.fragment.Fragment.{Fragment}
+use Rattle.machines.specs.declared.fragment.Numbered.{Numbered}
 use Rattle.machines.specs.Fragments.{Represents, TooMany}
 
-abbrev pub StandsFor : Regex → Fragment → Type 0
-StandsFor e f = MatchOption f.part (TooMany e) (λ p. Represents e p.tables p.count)
+abbrev pub StandsFor : Regex → Option Numbered → Type 0
+StandsFor e o = MatchOption o (TooMany e) (λ p. Represents e p.tables p.count)

@@ -35,7 +35,7 @@ impl Fragment {
 
     // One place.
     fn place(letters: &Letters) -> Fragment
-        ensures value { (s : Symbol) → TakesSome s → LettersOf s letters.now.takes → StandsFor (one s) result }
+        ensures value { (s : Symbol) → TakesSome s → LettersOf s letters.now.takes → StandsFor (one s) result.part }
     {
         Fragment {
             part: Some(Numbered {
@@ -46,20 +46,16 @@ impl Fragment {
     }
 
     // This alone, its tables changed by the operation.
-    fn changed<F: FnOnce(&Tables) -> Tables + Drop>(&self, operation: F) -> Fragment
+    fn changed<F: FnOnce(&Tables) -> Tables + Drop>(&self, operation: F) -> Option<Numbered>
         requires callable { F.IsAlwaysCallable operation }
         requires makes { ChangesSome (FnOnceReturnsAt F.FnOnce operation) }
-        ensures value { (make : Regex → Regex) → Changes make (FnOnceReturnsAt F.FnOnce operation) → (e : Regex) → StandsFor e self.now → StandsFor (make e) result }
+        ensures value { (make : Regex → Regex) → Changes make (FnOnceReturnsAt F.FnOnce operation) → (e : Regex) → StandsFor e self.now.part → StandsFor (make e) result }
     {
-        let Some(own) = self.part else {
-            return Fragment { part: None };
-        };
-        Fragment {
-            part: Some(Numbered {
-                tables: operation(&own.tables),
-                count: own.count,
-            }),
-        }
+        let own = self.part?;
+        Some(Numbered {
+            tables: operation(&own.tables),
+            count: own.count,
+        })
     }
 
     // This and `second` by the operation, the places of `second` numbered after those of this.
@@ -67,33 +63,26 @@ impl Fragment {
         &self,
         second: &Fragment,
         operation: F,
-    ) -> Fragment
+    ) -> Option<Numbered>
         requires callable { F.IsAlwaysCallable operation }
         requires makes { JoinsSome (FnOnceReturnsAtPair F.FnOnce operation) }
-        ensures value { (make : Regex → Regex → Regex) → Joins make (FnOnceReturnsAtPair F.FnOnce operation) → (e f : Regex) → StandsFor e self.now → StandsFor f second.now → StandsFor (make e f) result }
+        ensures value { (make : Regex → Regex → Regex) → Joins make (FnOnceReturnsAtPair F.FnOnce operation) → (e f : Regex) → StandsFor e self.now.part → StandsFor f second.now.part → StandsFor (make e f) result }
     {
-        let Some(first) = self.part else {
-            return Fragment { part: None };
-        };
-        let Some(other) = second.part else {
-            return Fragment { part: None };
-        };
-        let count = first.count + other.count;
+        let own = self.part?;
+        let other = second.part?;
+        let count = own.count + other.count;
         if count > 63 {
-            return Fragment { part: None };
+            return None;
         }
-        let moved = other.tables.later(first.count as usize);
-        Fragment {
-            part: Some(Numbered {
-                tables: operation(&first.tables, &moved),
-                count,
-            }),
-        }
+        Some(Numbered {
+            tables: operation(&own.tables, &other.tables.later(own.count as usize)),
+            count,
+        })
     }
 
     // So many copies, one after the other.
     fn repeated(&self, times: u8) -> Fragment
-        ensures value { (e : Regex) → StandsFor e self.now → StandsFor (copies times e) result }
+        ensures value { (e : Regex) → StandsFor e self.now.part → StandsFor (copies times e) result.part }
     {
         let mut all = Fragment::nothing();
         for _ in 0..times {
@@ -108,7 +97,7 @@ impl Assembly for Fragment {
 
     type Letters = ClassLetters;
 
-    ghost stands = { λ f e. StandsFor e f };
+    ghost stands = { λ f e. StandsFor e f.part };
 
     fn nothing() -> Fragment {
         Fragment {
@@ -135,15 +124,21 @@ impl Assembly for Fragment {
     }
 
     fn then(&self, second: &Fragment) -> Fragment {
-        self.joined(second, |a, b| a.then(b))
+        Fragment {
+            part: self.joined(second, Tables::then),
+        }
     }
 
     fn either(&self, other: &Fragment) -> Fragment {
-        self.joined(other, |a, b| a.either(b))
+        Fragment {
+            part: self.joined(other, Tables::either),
+        }
     }
 
     fn star(&self) -> Fragment {
-        self.changed(|a| a.looped())
+        Fragment {
+            part: self.changed(Tables::looped),
+        }
     }
 
     fn plus(&self) -> Fragment {
@@ -151,7 +146,9 @@ impl Assembly for Fragment {
     }
 
     fn optional(&self) -> Fragment {
-        self.changed(|a| a.spared())
+        Fragment {
+            part: self.changed(Tables::spared),
+        }
     }
 
     fn counted(&self, least: u8, most: u8) -> Fragment {

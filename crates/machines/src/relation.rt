@@ -26,7 +26,7 @@ impl Relation {
     pub fn row(&self, of: PlaceNo) -> u64
         ensures value { result ≡ row_of self.now of.number }
     {
-        self.rows[of.index()]
+        self.rows[usize::from(of)]
     }
 
     // First this one, then `second`.

@@ -5,12 +5,12 @@ use Rattle.machines.proofs.fragment.Fragment.changed.Goals as goal
 
 pub invariant_of-result : goal.invariant_of-result
 invariant_of-result g c =
-    let a = c.in-Some.own in
+    let a = c.in_ok-own.own in
     record { small = a.small; part = ∥∥₁_map₂ a.part c.requires.makes (λ x m. (m.0 x.0, m.1.tables x.0 a.tables c.operation.result a.count x.1 (_, c.operation.ensures, refl))) }
 
 pub returns : goal.returns
 returns g c =
-    let a = c.in-Some.own in
+    let a = c.in_ok-own.own in
     record {
-      value = λ make makes e x. makes.tables e a.tables c.operation.result a.count (MatchOption-at_some _ _ _ c.in-Some.is x) (_, c.operation.ensures, refl);
+      value = λ make makes e x. makes.tables e a.tables c.operation.result a.count (MatchOption-at_some _ _ _ c.in_ok-own.was x) (_, c.operation.ensures, refl);
     }

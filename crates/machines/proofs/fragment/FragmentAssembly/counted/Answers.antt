@@ -12,6 +12,6 @@ returns c = record {
       let m = c.args.least in
       let n = c.args.most in
       let spare = c.repeated-spare.ensures.value (opt e) (c.optional.ensures.value e x) in
-      counted_stands m n e c.then.result le (sane e c.args.self.now x)
-      (c.then.ensures.value (copies m e) (copies (n - m) (opt e)) (c.repeated.ensures.value e x) (subst (λ k. StandsFor (copies k (opt e)) c.repeated-spare.result) c.saturating_sub.ensures spare));
+      counted_stands m n e c.then.result.part le (sane e c.args.self.now.part x)
+      (c.then.ensures.value (copies m e) (copies (n - m) (opt e)) (c.repeated.ensures.value e x) (subst (λ k. StandsFor (copies k (opt e)) c.repeated-spare.result.part) c.saturating_sub.ensures spare));
 }
