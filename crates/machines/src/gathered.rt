@@ -22,14 +22,10 @@ impl Gathering for ClassLetters {
             Some(letters) => ClassLetters {
                 letters: Some(letters.with(low, high)),
             },
-            None => {
-                if low > high {
-                    return ClassLetters { letters: None };
-                }
-                ClassLetters {
-                    letters: Some(Letters::byte(low).with(low, high)),
-                }
-            }
+            None if low > high => *self,
+            None => ClassLetters {
+                letters: Some(Letters::byte(low).with(low, high)),
+            },
         }
     }
 }
