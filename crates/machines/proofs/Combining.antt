@@ -1,11 +1,11 @@
 -- Masks that are combined, by what their members mean, and the tables of the empty text and of one place. Assumes nothing.
-use Rattle.std.proofs.Common.{◌≡◌, ℕ, ◌-◌, ◌<◌, ◌≤◌, Bool, ◌&&◌, ◌||◌, eqb, ltb, leb, ◌⊎◌, ◌↔◌, List, get_or, set, replicate, Decides, sym, ap, ◌∙◌, subst, inl, inr, ⊎_elim, get_or-set_other}
+use Rattle.std.proofs.Common.{◌≡◌, ℕ, ◌<◌, ◌≤◌, Bool, ◌&&◌, leb, ◌⊎◌, ◌↔◌, List, get_or, set, replicate, Decides, sym, ap, ◌∙◌, subst, inl, inr, ⊎_elim, get_or-set_other}
 use lib.Bits.{bit_or}
 use Rattle.std.proofs.lemmas.List.{get_or-replicate}
 use Rattle.std.proofs.lemmas.Bool.{leb-true, le-leb, cases_eq}
-use Rattle.std.proofs.lemmas.Bool.Decides.{Decides-and, Decides-or, Decides-eqb, Decides-ltb}
+use Rattle.std.proofs.lemmas.Bool.Decides.{Decides-and}
 use Rattle.machines.specs.Building.{TablesBy}
-use Rattle.machines.specs.Masks.{Has, Members, Only, After}
+use Rattle.machines.specs.Masks.{Has, Members, Only}
 use Rattle.machines.specs.Shown.Members.{or_members, zero_has, zeroth_members, place_one_members}
 
 pub either_members : {P Q : ℕ → Type 0} (a b : ℕ) → Members a P → Members b Q → Members (bit_or a b) (λ p. P p ⊎ Q p)
@@ -40,11 +40,6 @@ place_one = record { at = place_one_members }
 pub range_members : (r low c high : ℕ) → Members r (Only (leb low c && leb c high) 2) → Members r (λ p. (p ≡ 1) × ((low ≤ c) × (c ≤ high)))
 range_members r low c high is =
     swapped r (only_members r 2 (leb low c && leb c high) is (Decides-and (leb low c) (leb c high) (leb-true low c, le-leb low c) (leb-true c high, le-leb c high)) place_one)
-
--- a row moves with its place, and row 0 stays
-pub later_row_members : (r old q by from : ℕ) (rows : ℕ → ℕ) → Members r (Only (eqb q 0 || ltb by q) old) → Members old (After by (rows from)) → from ≡ q - by → Members r (λ p. ((q ≡ 0) ⊎ (by < q)) × After by (rows (q - by)) p)
-later_row_members r old q by from rows is was e =
-    only_members r old (eqb q 0 || ltb by q) is (Decides-or (eqb q 0) (ltb by q) (Decides-eqb q 0) (Decides-ltb by q)) (subst (λ x. Members old (After by (rows x))) e was)
 
 nothing : (n q p : ℕ) → q < n → Has (get_or (replicate n 0) q 0) p → ⊥
 nothing n q p lt h = zero_has p (subst (λ x. Has x p) (get_or-replicate n q 0 0 lt) h)

@@ -1,6 +1,6 @@
 -- A counted repeat as copies in a row: so many that must be there, and then some that may. Assumes nothing.
-use Rattle.std.proofs.Common.{◌≡◌, ℕ, Option, zero, suc, ◌+◌, ◌-◌, ◌*◌, ◌≤◌, sym, refl, ap, ◌∙◌, subst, suc-mul, add-mul, zero-mul, arith}
-use Rattle.pattern.specs.Expressions.{Expr, empty, seq, opt, counted, Regex}
+use Rattle.std.proofs.Common.{◌≡◌, ℕ, Option, zero, suc, ◌+◌, ◌-◌, ◌*◌, ◌≤◌, sym, refl, ap, ◌∙◌, suc-mul, add-mul, zero-mul, arith}
+use Rattle.pattern.specs.Expressions.{Expr, seq, opt, counted, Regex}
 use Rattle.pattern.specs.Places.{places}
 use Rattle.machines.specs.declared.fragment.Numbered.{Numbered}
 use Rattle.machines.specs.Soundness.{Sane}

@@ -12,4 +12,3 @@ pub mod Shifts
 pub mod Standing
 pub mod Tabling
 pub mod Uniting
-pub mod Whole

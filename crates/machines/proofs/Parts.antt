@@ -1,7 +1,7 @@
 -- The parts of a machine, put together: what represents two expressions represents the one that is made of them. Assumes nothing.
 use Rattle.std.proofs.Common.{◌≡◌, ℕ, ◌+◌, ◌≤◌, min, List, get_or, refl, ap, ◌∙◌, subst, arith}
-use mathlib.Core.Logic.{∥∥₁_map, ∥∥₁_map₂}
-use Rattle.pattern.specs.Expressions.{one, empty, seq, alt, star, plus, opt, Regex, Symbol}
+use mathlib.Core.Logic.{∥∥₁_map}
+use Rattle.pattern.specs.Expressions.{one, empty, seq, alt, star, opt, Regex, Symbol}
 use Rattle.pattern.specs.Meaning.{Means}
 use Rattle.pattern.specs.Places.{places}
 use Rattle.machines.specs.declared.tables.Tables.{Tables}
@@ -84,21 +84,6 @@ module _ (e f : Regex) (a b b' r : Tables) (m n : ℕ) (x : Represents e a m) (y
         tables = λ few. of_for (alt e f) r few (union_tables (Spelling e) (SpellingFrom (1 + places e) f) a b' r first_for second_for by);
       }
 
--- too many places
-
-module _ (e f : Regex) (a b r : Tables) (m n : ℕ) (x : Represents e a m) (y : Represents f b n) (over : 64 ≤ m + n) where
-  pub then_over : Represents (seq e f) r 64
-  then_over =
-      let c = x.count in
-      let d = y.count in
-      record { sane = (x.sane, y.sane); count = omega arith; tables = λ few. absurd (omega arith) }
-
-  pub either_over : Represents (alt e f) r 64
-  either_over =
-      let c = x.count in
-      let d = y.count in
-      record { sane = (x.sane, y.sane); count = omega arith; tables = λ few. absurd (omega arith) }
-
 -- one part
 
 pub star_part : (e : Regex) (a r : Tables) (n : ℕ) → Represents e a n → Loops a r → Represents (star e) r n
@@ -122,14 +107,6 @@ same_part e e' t n sane same written x = record {
   count = x.count ∙ ap (λ k. min k 64) same;
   tables = λ few. of_for e' t few (subst (λ w. TablesFor (Means {S = Place Symbol} {A = Place Symbol} (λ p q. p ≡ q) w) t) written (for_of e t (x.tables (omega arith))));
 }
-
--- what is made of parts is a part
-
-pub part_one : (make : Regex → Regex) (a r : Tables) (m k : ℕ) → Part a m → ((e : Regex) → Represents e a m → Represents (make e) r k) → Part r k
-part_one make a r m k x step = ∥∥₁_map x (λ y. (make y.0, step y.0 y.1))
-
-pub part_two : (make : Regex → Regex → Regex) (a b r : Tables) (m n k : ℕ) → Part a m → Part b n → ((e f : Regex) → Represents e a m → Represents f b n → Represents (make e f) r k) → Part r k
-part_two make a b r m n k x y step = ∥∥₁_map₂ x y (λ u v. (make u.0 v.0, step u.0 v.0 u.1 v.1))
 
 -- a part with at most 63 places makes a machine
 pub part_made : (t : Tables) (n : ℕ) → n ≤ 63 → Part t n → Made t

@@ -1,36 +1,24 @@
 -- The members of a shifted mask, and of a mask cut to 64 bits. Assumes nothing.
-use Rattle.std.proofs.Common.{◌≡◌, ℕ, ◌+◌, ◌-◌, ◌*◌, ◌/◌, ◌%◌, ◌^◌, ◌<◌, ◌≤◌, ◌↔◌, sym, ap, ◌∙◌, subst, ⊎_elim, mul_assoc, arith}
-use Rattle.std.proofs.lemmas.Nat.{pow_pos, pow-add, shl-shr, shr-shr, field_of, mod-pow-add, mod_below}
+use Rattle.std.proofs.Common.{◌≡◌, ℕ, ◌+◌, ◌-◌, ◌*◌, ◌/◌, ◌%◌, ◌^◌, ◌<◌, ◌≤◌, ◌↔◌, sym, ap, ◌∙◌, subst, ⊎_elim, arith}
+use Rattle.std.specs.Int.{bit_at}
+use Rattle.std.proofs.lemmas.Nat.{pow_pos, mod_below}
+use Rattle.std.proofs.lemmas.Nat.Bits.{bit_at-zero, bit_at_cat_low, bit_at_cat_high}
 use Rattle.std.proofs.lemmas.Bool.{cases_lt}
-use Rattle.machines.specs.Masks.{bit, Has, After}
+use Rattle.machines.specs.Masks.{Has, After}
 use Rattle.machines.specs.Shown.Members.{has_below, high_bit}
-
--- the lowest digit stays where higher ones are cut off
-low_stays : (y j : ℕ) → y % 2 ^ (j + 1) % 2 ≡ y % 2
-low_stays y j = let e = mod-pow-add y j 1 in omega arith
-
-pub bit_cut : (x p : ℕ) → p < 64 → bit (x % 2 ^ 64) p ≡ bit x p
-bit_cut x p lt =
-    ap (λ k. x % 2 ^ k / 2 ^ p % 2) (let e : 64 ≡ (63 - p + 1) + p = omega arith in e)
-    ∙ ap (λ k. k % 2) (field_of x (63 - p + 1) p)
-    ∙ low_stays (x / 2 ^ p) (63 - p)
 
 -- a shift by n in a word of 64 bits
 abbrev pub shl : ℕ → ℕ → ℕ
 shl a n = a * 2 ^ n % 2 ^ 64
 
-shl_high : (a n p : ℕ) → n ≤ p → p < 64 → bit (shl a n) p ≡ bit a (p - n)
-shl_high a n p le lt =
-    bit_cut (a * 2 ^ n) p lt
-    ∙ ap (λ k. a * 2 ^ n / 2 ^ k % 2) (let e : p ≡ n + (p - n) = omega arith in e)
-    ∙ ap (λ k. k % 2) (sym (shr-shr (a * 2 ^ n) n (p - n)) ∙ ap (λ k. k / 2 ^ (p - n)) (shl-shr a n))
+bit_cut : (x p : ℕ) → p < 64 → bit_at (x % 2 ^ 64) p ≡ bit_at x p
+bit_cut x p lt = sym (bit_at_cat_low (x / 2 ^ 64) 64 (x % 2 ^ 64) p lt) ∙ ap (λ y. bit_at y p) (let e : x / 2 ^ 64 * 2 ^ 64 + x % 2 ^ 64 ≡ x = omega arith in e)
 
-shl_low : (a n p : ℕ) → p < n → p < 64 → bit (shl a n) p ≡ 0
-shl_low a n p gt lt =
-    let two : 2 ^ n ≡ 2 ^ (n - p - 1) * 2 * 2 ^ p = ap (λ k. 2 ^ k) (let e : n ≡ (n - p - 1) + 1 + p = omega arith in e) ∙ pow-add 2 ((n - p - 1) + 1) p ∙ ap (λ k. k * 2 ^ p) (pow-add 2 (n - p - 1) 1) in
-    let even : a * 2 ^ n / 2 ^ p ≡ a * (2 ^ (n - p - 1) * 2) = ap (λ k. k / 2 ^ p) (ap (λ k. a * k) two ∙ sym (mul_assoc a (2 ^ (n - p - 1) * 2) (2 ^ p))) ∙ shl-shr (a * (2 ^ (n - p - 1) * 2)) p in
-    let more : a * (2 ^ (n - p - 1) * 2) ≡ a * 2 ^ (n - p - 1) * 2 = sym (mul_assoc a (2 ^ (n - p - 1)) 2) in
-    bit_cut (a * 2 ^ n) p lt ∙ ap (λ k. k % 2) (even ∙ more) ∙ (let z : a * 2 ^ (n - p - 1) * 2 % 2 ≡ 0 = omega arith in z)
+shl_high : (a n p : ℕ) → n ≤ p → p < 64 → bit_at (shl a n) p ≡ bit_at a (p - n)
+shl_high a n p le lt = bit_cut (a * 2 ^ n) p lt ∙ ap (λ y. bit_at y p) (let e : a * 2 ^ n ≡ a * 2 ^ n + 0 = omega arith in e) ∙ bit_at_cat_high a n 0 p (pow_pos n) le
+
+shl_low : (a n p : ℕ) → p < n → p < 64 → bit_at (shl a n) p ≡ 0
+shl_low a n p gt lt = bit_cut (a * 2 ^ n) p lt ∙ ap (λ y. bit_at y p) (let e : a * 2 ^ n ≡ a * 2 ^ n + 0 = omega arith in e) ∙ bit_at_cat_low a n 0 p gt ∙ bit_at-zero p
 
 shl_below : (a n : ℕ) → shl a n < 2 ^ 64
 shl_below a n = mod_below (a * 2 ^ n) (2 ^ 64) (pow_pos 64)

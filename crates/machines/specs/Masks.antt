@@ -7,13 +7,11 @@
 --   union rows set n   the union of the rows of those members of the set that are below n
 --   gathered rows set  the union of the rows of the members of the set
 --   Gathered rows set r   r is that union, bit by bit
-use Rattle.std.specs.Prelude.{◌≡◌, ℕ, zero, suc, ◌-◌, ◌/◌, ◌%◌, ◌^◌, ◌<◌, Bool, true, cond, ◌↔◌, List, ◌==◌, bit_or, slice_index}
-
-abbrev pub bit : ℕ → ℕ → ℕ
-bit mask q = mask / 2 ^ q % 2
+use Rattle.std.specs.Prelude.{◌≡◌, ℕ, zero, suc, ◌-◌, ◌<◌, Bool, true, cond, ◌↔◌, List, ◌==◌, bit_or, slice_index}
+use Rattle.std.specs.Int.{bit_at}
 
 abbrev pub Has : ℕ → ℕ → Type 0
-Has mask q = bit mask q ≡ 1
+Has mask q = bit_at mask q ≡ 1
 
 pub record Members (mask : ℕ) (P : ℕ → Type 0) : Type 0 where
   pub at : (p : ℕ) → Has mask p ↔ P p
@@ -26,7 +24,7 @@ After n mask p = (n < p) × (p < 64) × Has mask (p - n)
 
 unfoldable pub union : List ℕ → ℕ → ℕ → ℕ
 union rows set zero = 0
-union rows set (suc n) = bit_or (union rows set n) (cond ((bit set n) == 1) (slice_index rows n) 0)
+union rows set (suc n) = bit_or (union rows set n) (cond ((bit_at set n) == 1) (slice_index rows n) 0)
 
 unfoldable pub gathered : List ℕ → ℕ → ℕ
 gathered rows set = union rows set 64

@@ -1,12 +1,14 @@
 -- The rows of a set's members, gathered: by members, and one member to a turn. Assumes nothing.
-use Rattle.std.specs.Prelude.{◌≡◌, ℕ, zero, suc, ◌+◌, ◌/◌, ◌%◌, ◌^◌, ◌<◌, cond, ◌⊎◌, ◌↔◌, List, ◌==◌, ◌≢◌, bit_and, bit_or, slice_index}
-use Rattle.std.proofs.Common.{sym, ap, subst, ◌∙◌, inl, inr, ⊎_elim, arith}
+use Rattle.std.specs.Prelude.{◌≡◌, ℕ, zero, suc, ◌^◌, ◌<◌, cond, ◌⊎◌, ◌↔◌, List, ◌==◌, ◌≢◌, bit_and, bit_or, slice_index}
+use Rattle.std.proofs.Common.{sym, subst, inl, inr, ⊎_elim, arith}
 use Rattle.std.specs.Int.Bits.{bit_xor, xor_add_and}
-use Rattle.std.specs.Int.Count.{count_trailing_zeros, under}
-use Rattle.std.proofs.lemmas.Nat.{pow_pos, shr_below, xor_shr, and_mask}
+use Rattle.std.specs.Int.{bit_at, w64}
+use Rattle.std.specs.Int.Count.{count_trailing_zeros}
+use Rattle.std.proofs.lemmas.Nat.Bits.{bit_at_xor, bit_at-trailing_zeros}
+use Rattle.std.proofs.lemmas.Nat.{pow_pos}
 use Rattle.std.proofs.lemmas.Bool.{cases_lt, cases_eq, eq-eqb, ne_eqb, cond-true, cond-false}
-use Rattle.machines.specs.Masks.{bit, Has, union, gathered, Gathered}
-use Rattle.machines.specs.Shown.Members.{zero_has, has_cases, or_has, has_or_left, has_or_right, and_has, has_and, has_below, has_power, power_has, low_bit, high_bit, same_masks}
+use Rattle.machines.specs.Masks.{Has, union, gathered, Gathered}
+use Rattle.machines.specs.Shown.Members.{zero_has, has_cases, or_has, has_or_left, has_or_right, and_has, has_and, has_power, power_has, same_masks}
 
 abbrev Among : List ℕ → ℕ → ℕ → ℕ → Type 0
 Among rows set n p = (q : ℕ) × (q < n) × Has set q × Has (slice_index rows q) p
@@ -19,10 +21,10 @@ union_has rows set (suc n) p h =
     (λ x. let r = union_has rows set n p x in (r.0, (let l = r.1 in omega arith), r.2, r.3))
     (λ x.
     ⊎_elim
-    (λ m. (n, omega arith, m, subst (λ y. Has y p) (cond-true _ (slice_index rows n) 0 (eq-eqb (bit set n) 1 m)) x))
-    (λ m. absurd (zero_has p (subst (λ y. Has y p) (cond-false _ (slice_index rows n) 0 (ne_eqb (bit set n) 1 m)) x)))
+    (λ m. (n, omega arith, m, subst (λ y. Has y p) (cond-true _ (slice_index rows n) 0 (eq-eqb (bit_at set n) 1 m)) x))
+    (λ m. absurd (zero_has p (subst (λ y. Has y p) (cond-false _ (slice_index rows n) 0 (ne_eqb (bit_at set n) 1 m)) x)))
     (has_cases set n))
-    (or_has (union rows set n) (cond ((bit set n) == 1) (slice_index rows n) 0) p h)
+    (or_has (union rows set n) (cond ((bit_at set n) == 1) (slice_index rows n) 0) p h)
 
 has_union : (rows : List ℕ) (set n p : ℕ) → Among rows set n p → Has (union rows set n) p
 unfolding union
@@ -33,7 +35,7 @@ has_union rows set (suc n) p a =
     (λ le.
     let e : a.0 ≡ n = (let l = a.1 in omega arith) in
     has_or_right (union rows set n) _ p
-    (subst (λ y. Has y p) (sym (cond-true ((bit set n) == 1) (slice_index rows n) 0 (eq-eqb (bit set n) 1 (subst (λ x. Has set x) e a.2))))
+    (subst (λ y. Has y p) (sym (cond-true ((bit_at set n) == 1) (slice_index rows n) 0 (eq-eqb (bit_at set n) 1 (subst (λ x. Has set x) e a.2))))
     (subst (λ x. Has (slice_index rows x) p) e a.3)))
     (cases_lt a.0 n)
 
@@ -46,36 +48,24 @@ gathered_by rows set r e = subst (Gathered rows set) (sym e) (gathered_members r
 
 -- the lowest member of a set that is not empty
 
-lowest : (k n : ℕ) → n < 2 ^ k → (n ≢ 0) → Has n (count_trailing_zeros k n)
-unfolding count_trailing_zeros
-lowest zero n lt some = absurd (some (omega arith))
-lowest (suc k) n lt some =
-    ⊎_elim
-    (λ odd. subst (Has n) (sym (ap (λ d. under d (count_trailing_zeros k (n / 2))) odd)) (low_bit n ∙ odd))
-    (λ no_bit.
-    let even : n % 2 ≡ 0 = omega arith in
-    let more = lowest k (n / 2) (shr_below n k 1 (subst (λ x. n < 2 ^ x) (let s : suc k ≡ k + 1 = omega arith in s) lt)) (λ z. some (omega arith)) in
-    subst (Has n) (sym (ap (λ d. under d (count_trailing_zeros k (n / 2))) even)) (subst (Has n) (let s : 1 + count_trailing_zeros k (n / 2) ≡ suc (count_trailing_zeros k (n / 2)) = omega arith in s) (sym (high_bit n (count_trailing_zeros k (n / 2))) ∙ more)))
-    (cases_eq (n % 2) 1)
+lowest : (n : ℕ) → n < 2 ^ 64 → (n ≢ 0) → (count_trailing_zeros 64 n < 64) × Has n (count_trailing_zeros 64 n)
+lowest n lt some = let x = bit_at-trailing_zeros w64 n (omega arith) lt in (x.0, x.1)
 
 pub lowest_low : (n q : ℕ) → q ≡ count_trailing_zeros 64 n → n < 2 ^ 64 → (n ≢ 0) → q < 64
-lowest_low n q is lt some = subst (λ x. x < 64) (sym is) (has_below n 64 (count_trailing_zeros 64 n) lt (lowest 64 n lt some))
+lowest_low n q is lt some = subst (λ x. x < 64) (sym is) (lowest n lt some).0
 
 -- a set without one of its members
 
-bit_xor_lem : (a b q : ℕ) → bit (bit_xor a b) q ≡ (bit a q + bit b q) % 2
-bit_xor_lem a b q = ap (λ x. x % 2) (xor_shr a b q) ∙ (let s = xor_add_and (a / 2 ^ q) (b / 2 ^ q) in omega arith)
-
 off_has : (n q k : ℕ) → Has n q → Has (bit_xor n (2 ^ q)) k → Has n k × (k ≢ q)
 off_has n q k member h =
-    let e = bit_xor_lem n (2 ^ q) k in
+    let e = bit_at_xor n (2 ^ q) k in
     ⊎_elim
     (λ same. absurd (let x : Has n k = subst (Has n) (sym same) member in let y : Has (2 ^ q) k = subst (Has (2 ^ q)) (sym same) (has_power q) in omega arith))
     (λ ne. (let y : Has (2 ^ q) k → ⊥ = λ z. ne (power_has q k z) in omega arith, ne))
     (cases_eq k q)
 
 has_off : (n q k : ℕ) → Has n k → (k ≢ q) → Has (bit_xor n (2 ^ q)) k
-has_off n q k h ne = let e = bit_xor_lem n (2 ^ q) k in let y : Has (2 ^ q) k → ⊥ = λ z. ne (power_has q k z) in omega arith
+has_off n q k h ne = let e = bit_at_xor n (2 ^ q) k in let y : Has (2 ^ q) k → ⊥ = λ z. ne (power_has q k z) in omega arith
 
 lowest_off : (n q : ℕ) → Has n q → bit_xor n (2 ^ q) < n
 lowest_off n q member =
@@ -87,12 +77,6 @@ lowest_off n q member =
 pub record Left (rows : List ℕ) (set rest all : ℕ) : Type 0 where
   pub small : rest < 2 ^ 64
   pub sum : (p : ℕ) → (Has all p ⊎ Has (gathered rows rest) p) ↔ Has (gathered rows set) p
-
-pub left_none : (rows : List ℕ) (set : ℕ) → set < 2 ^ 64 → Left rows set set 0
-left_none rows set lt = record {
-  small = lt;
-  sum = λ p. (⊎_elim (λ h. absurd (zero_has p h)) (λ h. h), λ h. inr h);
-}
 
 pub left_all : (rows : List ℕ) (set rest all : ℕ) → rest ≡ 0 → Left rows set rest all → all ≡ gathered rows set
 left_all rows set rest all none left =
@@ -126,10 +110,7 @@ left_more rows set rest all q is some left = (
 )
   where
     member : Has rest q
-    member = subst (Has rest) (sym is) (lowest 64 rest left.small some)
+    member = subst (Has rest) (sym is) (lowest rest left.small some).1
 
     low : q < 64
     low = lowest_low rest q is left.small some
-
-pub low_digit : (n : ℕ) → bit_and n 1 ≡ n % 2
-low_digit n = and_mask n 1

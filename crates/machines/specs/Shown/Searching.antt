@@ -4,7 +4,8 @@ use Rattle.std.proofs.Math.Logic.{∥∥₁_map}
 use Rattle.std.proofs.lemmas.Bool.Decides.{Decides-eqb, Decides-ltb, Decides-and, Decides-like, Decides-below_or}
 use Rattle.folding.specs.Texts.{Bytes}
 use Rattle.machines.specs.declared.tables.Tables.{Tables}
-use Rattle.machines.specs.Masks.{bit, Has}
+use Rattle.std.specs.Int.{bit_at}
+use Rattle.machines.specs.Masks.{Has}
 use Rattle.machines.specs.Shown.Least.{found}
 use Rattle.machines.specs.Shown.Running.{LeadsBy, ReachesBy}
 
@@ -23,21 +24,21 @@ module _ (t : Tables) where
   Away (suc n) q = (p : ℕ) × (p < 64) × ((c : ℕ) × (c < 256) × (LeadsBy t q c p × Away n p))
 
   leads_test : ℕ → ℕ → ℕ → Bool
-  leads_test q c p = nat_lt q 64 && (bit (slice_index t.follow q) p == 1 && bit (slice_index t.takes c) p == 1)
+  leads_test q c p = nat_lt q 64 && (bit_at (slice_index t.follow q) p == 1 && bit_at (slice_index t.takes c) p == 1)
 
   leads_decides : (q c p : ℕ) → Decides (leads_test q c p) (LeadsBy t q c p)
   unfolding leads_test
   leads_decides q c p =
       Decides-like (leads_test q c p) (λ h. (h.0, h.1.0, h.1.1)) (λ h. (h.0, (h.1, h.2)))
-      (Decides-and (nat_lt q 64) _ (Decides-ltb q 64) (Decides-and _ _ (Decides-eqb (bit (slice_index t.follow q) p) 1) (Decides-eqb (bit (slice_index t.takes c) p) 1)))
+      (Decides-and (nat_lt q 64) _ (Decides-ltb q 64) (Decides-and _ _ (Decides-eqb (bit_at (slice_index t.follow q) p) 1) (Decides-eqb (bit_at (slice_index t.takes c) p) 1)))
 
   away_test : ℕ → ℕ → Bool
-  away_test zero q = bit t.accepts q == 1
+  away_test zero q = bit_at t.accepts q == 1
   away_test (suc n) q = any_below (λ p. any_below (λ c. leads_test q c p && away_test n p) 256) 64
 
   away_decides : (n q : ℕ) → Decides (away_test n q) (Away n q)
   unfolding away_test
-  away_decides zero q = Decides-eqb (bit t.accepts q) 1
+  away_decides zero q = Decides-eqb (bit_at t.accepts q) 1
   away_decides (suc n) q =
       any_decides (λ p. any_below (λ c. leads_test q c p && away_test n p) 256) (λ p. (c : ℕ) × (c < 256) × (LeadsBy t q c p × Away n p))
       (λ p. any_decides (λ c. leads_test q c p && away_test n p) (λ c. LeadsBy t q c p × Away n p) (λ c. Decides-and (leads_test q c p) (away_test n p) (leads_decides q c p) (away_decides n p)) 256) 64

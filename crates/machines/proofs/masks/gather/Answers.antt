@@ -2,11 +2,8 @@ use Rattle.std.proofs.Common.{◌<◌, get_or, sym, refl, subst}
 use lib.Bits.{bit_or, bit_xor}
 use lib.Count.{count_trailing_zeros}
 use Rattle.std.proofs.lemmas.Nat.{one_shl}
-use Rattle.machines.specs.Shown.Gathering.{Left, left_none, left_more, left_all, gathered_by, lowest_low}
+use Rattle.machines.specs.Shown.Gathering.{Left, left_more, left_all, gathered_by, lowest_low}
 use Rattle.machines.proofs.masks.gather.Goals as goal
-
-pub loop-rest-init : goal.loop-rest-init
-loop-rest-init c = left_none c.args.rows.now c.args.set c.ranges.set.fits
 
 pub loop-rest-preserved : goal.loop-rest-preserved
 loop-rest-preserved c =

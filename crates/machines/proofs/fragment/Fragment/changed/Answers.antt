@@ -1,4 +1,4 @@
-use mathlib.Core.Logic.{∥∥₁_map, ∥∥₁_map₂}
+use mathlib.Core.Logic.{∥∥₁_map₂}
 use Rattle.std.proofs.Common.{refl}
 use Rattle.std.proofs.lemmas.Option.{MatchOption-at_some}
 use Rattle.machines.proofs.fragment.Fragment.changed.Goals as goal
