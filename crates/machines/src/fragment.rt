@@ -10,7 +10,7 @@ use pattern::assembly::Assembly;
 
 // The tables of the part alone, its places numbered from 1.
 #[derive(Clone, Copy)]
-pub struct Numbered {
+pub(crate) struct Numbered {
     pub(crate) tables: Tables,
     count: u8,
     ghost small: { count ≤ 63 },
@@ -45,7 +45,8 @@ impl Fragment {
         }
     }
 
-    // This alone, its tables changed by the operation.
+    // This alone, its tables changed by the operation. Here and below `make` is bound in the clauses,
+    // since a call that passes a closure and picks a ghost value gets no proof yet.
     fn changed<F: FnOnce(&Tables) -> Tables + Drop>(&self, operation: F) -> Option<Numbered>
         requires callable { F.IsAlwaysCallable operation }
         requires makes { ChangesSome (FnOnceReturnsAt F.FnOnce operation) }
