@@ -1,5 +1,4 @@
 // The machine of a pattern that was read.
-ghost use Rattle.std.specs.Prelude.{take};
 ghost use Rattle.pattern.specs.Expressions.{Regex};
 ghost use Rattle.pattern.specs.Grammar.{Written, deepest};
 ghost use Rattle.machines.specs.Laws.{SpelledExactly, EachPlaceLives, MeansExactly, ReachesExactly, JoinsExactly, Neutral};
@@ -11,7 +10,7 @@ use crate::place::PlaceMachine;
 use pattern::record::Pattern;
 
 pub fn build(pattern: &Pattern) -> PlaceMachine
-    ensures tables { (e : Regex) → Written deepest (take pattern.now.len pattern.now.bytes) e → Sane e × TablesOf e result.tables }
+    ensures tables { (e : Regex) → Written deepest pattern.now e → Sane e × TablesOf e result.tables }
     ensures means { MeansExactly result.tables }
     ensures reaches { ReachesExactly result.tables }
     ensures joins { JoinsExactly result.tables }

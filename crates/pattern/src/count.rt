@@ -1,5 +1,5 @@
 // The count of places while a pattern is read. It stops at 64: nested counts multiply past any
-// number. It is no Option, since a count of 0 around what is past 63 makes it 0 again.
+// number. It is a number that stops, as a tally's do, and no Option: each part is one sum or product.
 ghost use Rattle.std.specs.Prelude.{◌≡◌, min};
 ghost use Rattle.pattern.specs.Places.{places as places_of};
 
