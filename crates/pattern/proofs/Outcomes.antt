@@ -1,5 +1,5 @@
 -- What the reader's answer at the outermost level says of the whole pattern. Assumes nothing.
-use Rattle.std.proofs.Common.{◌≡◌, ℕ, ◌-◌, ◌<◌, ◌≤◌, min, List, [], length, get_or, Result, Ok, Err, MatchResult, IsOk, refl, ap, ◌∙◌, subst, inl, inr, arith, w8, Fits}
+use Rattle.std.proofs.Common.{◌≡◌, ℕ, ◌-◌, ◌<◌, ◌≤◌, min, List, [], length, get_or, Result, Ok, Err, MatchResult, IsOk, sym, refl, ap, ◌∙◌, subst, inl, inr, arith, w8, Fits}
 use Rattle.std.proofs.ByRecursion.{All-from_get_or}
 use Rattle.std.proofs.lemmas.List.{drop_all}
 use Rattle.fault.specs.declared.Fault.{Fault}
@@ -42,8 +42,11 @@ module _ (p : List ℕ) (bytes : Bytes p) (short : length p ≤ 256) where
       let written : Written 16 p e = sound p _ bytes (read.runs [] ∙ ap (verdict _) (drop_all end p ge) ∙ verdict_end _) in
       record { expression = e; short = short; written = written; stands = λ f is. subst (S part) (one_reading p e f written is) read.value }
 
-pub empty_granted : Granted [] 0
+empty_granted : Granted [] 0
 empty_granted = record { expression = empty; short = omega arith; written = lone nothing; few = omega arith; value = refl }
+
+pub empty_readable : (w : List ℕ) → w ≡ [] → Readable w
+empty_readable w is = subst Readable (sym is) (0, empty_granted)
 
 -- the refusals that come before the places are counted
 pub refused_unwritten : (p : List ℕ) (f : Fault) → Unwritten p f → Refused p f
