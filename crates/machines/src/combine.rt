@@ -11,7 +11,7 @@ use std::array;
 pub(crate) fn both<const N: usize>(a: &[u64; N], b: &[u64; N]) -> [u64; N]
     ensures members { (k p : ℕ) → k < N → Has (slice_index result k) p ↔ (Has (slice_index a.now k) p ⊎ Has (slice_index b.now k) p) }
 {
-    // As slices: of a closure that reads an array of any length no result is known.
+    // As slices: a proof does not learn what a closure gives that reads arrays of any length N.
     let (a, b) = (&a[..], &b[..]);
     array::from_fn(|k| a[k] | b[k])
 }
