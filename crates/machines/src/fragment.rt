@@ -24,7 +24,6 @@ pub struct Fragment {
 }
 
 impl Fragment {
-    ghost use Rattle.std.specs.Prelude.{◌≤◌};
     ghost use Rattle.std.specs.Fn.{FnOnceReturnsAt, FnOnceReturnsAtPair};
     ghost use Rattle.pattern.specs.Expressions.{Regex, Symbol, one};
     ghost use Rattle.machines.specs.Letters.{LettersOf};

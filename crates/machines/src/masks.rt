@@ -1,5 +1,5 @@
 // Sets of states as masks, bit q standing for state q.
-ghost use Rattle.std.specs.Prelude.{◌≡◌, ℕ, ◌<◌, ◌≤◌, true, ◌↔◌, Decides};
+ghost use Rattle.std.specs.Prelude.{◌≡◌, ◌<◌, ◌≤◌, Decides};
 ghost use Rattle.machines.specs.Masks.{Has, Members, Only, After, gathered, Gathered};
 
 // The union of the rows of the members of `set`, one turn to a member.
