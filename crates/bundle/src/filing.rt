@@ -2,6 +2,7 @@
 ghost use Rattle.std.specs.Prelude.{◌≡◌, [], ◌∷◌, length};
 ghost use Rattle.std.specs.List.{AllByRecursion};
 ghost use Rattle.roll.specs.Calls.{after};
+ghost use Rattle.roll.specs.Lending.{StillLent};
 ghost use Rattle.roll.specs.Plain.{Plain};
 ghost use Rattle.roll.specs.Stands.{state, Stands};
 ghost use Rattle.folding.specs.Texts.{Bytes};
@@ -23,8 +24,7 @@ const SLOTS: usize = 128;
 fn file_one<M: Judging>(roll: &mut Roll, lent: &mut LentMut<M>, strip: Strip) -> Result<(), Fault>
     requires short { Short strip }
     ensures filed { (p : Plain) → length p ≡ 128 → Stands (M.Folding.leg lent.old.machine.now) (state roll.old lent.old.legs.now lent.old.tallies.now) p → Filed (M.Folding.leg lent.old.machine.now) (filed p (piece strip.entry ∷ [])) result (state roll.new lent.new.legs.now lent.new.tallies.now) }
-    ensures machine { lent.new.machine ≡ lent.old.machine }
-    ensures tables { (lent.new.legs.ghost_name ≡ lent.old.legs.ghost_name) × (lent.new.tallies.ghost_name ≡ lent.old.tallies.ghost_name) }
+    ensures lent { StillLent lent.old lent.new }
 {
     let open = feeding::strip_of(lent.machine, strip.text)?;
     roll.file(lent, strip.slot as usize, open)?;
@@ -35,8 +35,7 @@ fn file_one<M: Judging>(roll: &mut Roll, lent: &mut LentMut<M>, strip: Strip) ->
 // refusal ends it.
 fn file_all<M: Judging>(roll: &mut Roll, lent: &mut LentMut<M>, strips: Strips) -> Result<(), Fault>
     ensures filed { (p : Plain) → length p ≡ 128 → Stands (M.Folding.leg lent.old.machine.now) (state roll.old lent.old.legs.now lent.old.tallies.now) p → Filed (M.Folding.leg lent.old.machine.now) (filed p (left strips.entry)) result (state roll.new lent.new.legs.now lent.new.tallies.now) }
-    ensures machine { lent.new.machine ≡ lent.old.machine }
-    ensures tables { (lent.new.legs.ghost_name ≡ lent.old.legs.ghost_name) × (lent.new.tallies.ghost_name ≡ lent.old.tallies.ghost_name) }
+    ensures lent { StillLent lent.old lent.new }
 {
     for strip in strips {
         file_one(roll, lent, strip)?;

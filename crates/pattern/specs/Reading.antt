@@ -23,10 +23,6 @@ pub record Granted (w : List ℕ) (n : ℕ) : Type 0 where
 abbrev pub Readable : List ℕ → Type 0
 Readable w = (n : ℕ) × Granted w n
 
--- the same, with nothing told of the expression
-abbrev pub Holds : List ℕ → Type 0
-Holds w = ∥ Readable w ∥₁
-
 abbrev pub TooLong : List ℕ → Fault → Type 0
 TooLong w f = (256 < length w) × (f ≡ refused PatternTooLong (length w))
 

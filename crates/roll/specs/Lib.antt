@@ -1,5 +1,6 @@
 pub mod Calls
 pub mod Law
+pub mod Lending
 pub mod Plain
 pub mod Refusals
 pub mod Runs

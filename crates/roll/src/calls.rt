@@ -4,6 +4,7 @@ ghost use Rattle.folding.specs.Texts.{Bytes};
 ghost use Rattle.std.specs.Result.{result_err};
 ghost use Rattle.roll.specs.Calls.{done, tallied, judged, named};
 ghost use Rattle.roll.specs.Law.{Law};
+ghost use Rattle.roll.specs.Lending.{StillLent};
 ghost use Rattle.roll.specs.Refusals.{withdrawal, verdict, totals, culprit, room};
 ghost use Rattle.roll.specs.Sizes.{allowed as allowed_size};
 ghost use Rattle.roll.specs.Stands.{state};
@@ -50,8 +51,7 @@ impl Roll {
     // Gives the roll n empty slots, whatever it held.
     pub fn open<M: Judging>(&mut self, lent: &mut LentMut<M>, n: usize) -> Result<(), Fault>
         ensures opens { Opens (M.Folding.leg lent.old.machine.now) (state self.old lent.old.legs.now lent.old.tallies.now) n result (state self.new lent.new.legs.now lent.new.tallies.now) }
-        ensures machine { lent.new.machine ≡ lent.old.machine }
-        ensures tables { (lent.new.legs.ghost_name ≡ lent.old.legs.ghost_name) × (lent.new.tallies.ghost_name ≡ lent.old.tallies.ghost_name) }
+        ensures lent { StillLent lent.old lent.new }
     {
         if !allowed(n) {
             return Err(Layer::Roll.fault(Refusal::SlotCount, n));
@@ -73,8 +73,7 @@ impl Roll {
         strip: Strip<M::Leg>,
     ) -> Result<Tally, Returned<M::Leg>>
         ensures files { Files (M.Folding.leg lent.old.machine.now) (M.Judging.means lent.old.machine.now) (state self.old lent.old.legs.now lent.old.tallies.now) slot strip result (state self.new lent.new.legs.now lent.new.tallies.now) }
-        ensures machine { lent.new.machine ≡ lent.old.machine }
-        ensures tables { (lent.new.legs.ghost_name ≡ lent.old.legs.ghost_name) × (lent.new.tallies.ghost_name ≡ lent.old.tallies.ghost_name) }
+        ensures lent { StillLent lent.old lent.new }
     {
         if let Err(fault) = self.slot_at(&lent.shared(), slot) {
             return Err(Returned { fault, strip });
@@ -90,8 +89,7 @@ impl Roll {
     // Empties a held slot.
     pub fn withdraw<M: Judging>(&mut self, lent: &mut LentMut<M>, slot: usize) -> Result<(), Fault>
         ensures does { Does (M.Folding.leg lent.old.machine.now) (M.Judging.means lent.old.machine.now) (state self.old lent.old.legs.now lent.old.tallies.now) (withdrawal slot) (heard (λ _. done) result) (state self.new lent.new.legs.now lent.new.tallies.now) }
-        ensures machine { lent.new.machine ≡ lent.old.machine }
-        ensures tables { (lent.new.legs.ghost_name ≡ lent.old.legs.ghost_name) × (lent.new.tallies.ghost_name ≡ lent.old.tallies.ghost_name) }
+        ensures lent { StillLent lent.old lent.new }
     {
         self.slot_at(&lent.shared(), slot)?;
         let mark = self.slots[slot];

@@ -22,16 +22,16 @@ end : (g : given.Over) (c : After-file_all g) (r : Result (Unit {0}) Fault) → 
 end g c r was =
     let opens = c.in_ok-open.ensures.opens in
     let made = state c.open.new.self c.open.new.lent.legs.now c.open.new.lent.tallies.now in
-    let stands = subst (λ m. Stands (g.M.Folding.leg m.now) made opened) (sym c.open.ensures.machine) (opens.keeps opens.refuses.which) in
+    let stands = subst (λ m. Stands (g.M.Folding.leg m.now) made opened) (sym c.open.ensures.lent.machine) (opens.keeps opens.refuses.which) in
     subst (λ x. Filed (g.M.Folding.leg c.args.lent.now.machine.now) (filed opened (left c.args.strips)) x (left_in g c)) was
-    (subst (λ m. Filed (g.M.Folding.leg m.now) (filed opened (left c.args.strips)) c.file_all.result (left_in g c)) c.open.ensures.machine (c.file_all.ensures.filed opened refl stands))
+    (subst (λ m. Filed (g.M.Folding.leg m.now) (filed opened (left c.args.strips)) c.file_all.result (left_in g c)) c.open.ensures.lent.machine (c.file_all.ensures.filed opened refl stands))
 
 -- a question is asked of that, under the machine that was lent
 asked : (g : given.Over) (c : After-shared-lent g) (q : Call) (a : Answer)
     → (let lent = c.shared-lent.result in let is = state c.file_all.new.roll lent.legs.now lent.tallies.now in Does (g.M.Folding.leg lent.machine.now) (g.M.Judging.means lent.machine.now) is q a is)
     → (let lent = c.file_all.new.lent in let is = state c.file_all.new.roll lent.legs.now lent.tallies.now in Does (g.M.Folding.leg c.args.lent.now.machine.now) (g.M.Judging.means c.args.lent.now.machine.now) is q a is)
 asked g c q a does =
-    let machine = c.shared-lent.ensures.machine ∙ ap (λ m. m.now) (c.file_all.ensures.machine ∙ c.open.ensures.machine) in
+    let machine = c.shared-lent.ensures.machine ∙ ap (λ m. m.now) (c.file_all.ensures.lent.machine ∙ c.open.ensures.lent.machine) in
     does_at g.M.Folding.leg g.M.Judging.means c.file_all.new.roll q a machine c.shared-lent.ensures.legs c.shared-lent.ensures.tallies does
 
 pub returns-in_err-file_all : goal.returns-in_err-file_all
