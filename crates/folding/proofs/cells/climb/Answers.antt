@@ -4,7 +4,7 @@ use Rattle.folding.proofs.cells.climb.Goals as goal
 
 pub loop-i-preserved : goal.loop-i-preserved
 loop-i-preserved g c =
-    rising_more _ _ _ _ _ _ _ _ c.loop-i.invariant c.loop-i.auto.cells c.loop-i-test.true c.index-cells-i.is c.index-cells-i-in-loop-i.is c.join.ensures.joins
+    rising_more _ _ _ _ _ _ _ _ c.loop-i.invariant c.loop-i.auto.cells (let test = c.loop-i-test.true in omega arith) c.index-cells-i.is c.index-cells-i-in-loop-i.is c.join.ensures.joins
 
 pub returns-clause-joined : goal.returns-clause-joined
 returns-clause-joined g c slots bytes wide ready =
