@@ -11,7 +11,8 @@ pub struct Strip<'a> {
     pub text: &'a [u8],
 }
 
-// The strips that are still to come: a byte for each slot, two for each length, and the texts in one run.
+// The strips that are still to come, as they lie in a bundle: a byte for each slot, two for each
+// length, and the texts in one run.
 #[derive(Clone, Copy)]
 pub struct Strips<'a> {
     pub(crate) slots: &'a [u8],

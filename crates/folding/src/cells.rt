@@ -1,5 +1,6 @@
 // The keeping of cells, one text for every folding: a tree of legs over the texts in N slots, laid
-// out in a lent slice of 2N legs (a segment tree in heap order).
+// out in a lent slice of 2N legs (a segment tree in heap order). Each call takes the folding and the
+// slice: an update and a fold over whatever is lent is the form that all tables are kept in.
 ghost use Rattle.std.specs.Prelude.{◌≡◌, ℕ, ◌+◌, ◌*◌, ◌/◌, ◌^◌, ◌<◌, ◌≤◌, List, [], length, MatchResult, slice_index_or};
 ghost use Rattle.fault.specs.declared.Layer.TheVariants.{Roll};
 ghost use Rattle.fault.specs.declared.Refusal.TheVariants.{NoSuchSlot};

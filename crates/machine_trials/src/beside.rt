@@ -52,7 +52,7 @@ fn cut(machine: &PlaceMachine, text: &[u8], i: usize, j: usize, k: usize) -> Res
     roll.verdict(&lent.shared())
 }
 
-// Whether every way of cutting the text gives this verdict.
+// Whether every way of cutting the text gives this verdict: i, j and k are the cuts.
 fn every_cut(machine: &PlaceMachine, text: &[u8], verdict: bool) -> Result<bool, Fault> {
     let n = text.len().min(64);
     for j in 0..=n {

@@ -8,7 +8,8 @@ use crate::letters::Letters;
 use crate::tables::Tables;
 use pattern::assembly::Assembly;
 
-// The tables of the part alone, its places numbered from 1.
+// The tables of the part alone, its places numbered from 1. The count is no length of theirs: they
+// have a row for each state and byte that there can be.
 #[derive(Clone, Copy)]
 pub(crate) struct Numbered {
     pub(crate) tables: Tables,

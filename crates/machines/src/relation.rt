@@ -6,7 +6,7 @@ use crate::masks;
 use crate::placeno::PlaceNo;
 use std::array;
 
-// Row q is the set of states that q leads to.
+// Row q is the set of states that q leads to; all 64 rows, as in the machine's tables.
 #[derive(Clone, Copy)]
 pub struct Relation {
     pub rows: [u64; 64],

@@ -35,7 +35,8 @@ pub(crate) fn is_escapable(byte: u8) -> bool
     )
 }
 
-// What has no office inside a class.
+// What has no office inside a class. Both tests match their characters as literals, so neither takes
+// the set as an argument.
 fn is_itself(byte: u8) -> bool
     ensures value { result ≡ kind_is_itself (class_kind byte) }
 {

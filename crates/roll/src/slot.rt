@@ -3,7 +3,8 @@ ghost use Rattle.std.specs.Prelude.{◌≡◌};
 ghost use Rattle.roll.specs.Refusals.{is_held};
 ghost use Rattle.roll.specs.declared.slot.Slot.TheVariants.{Held, Empty};
 
-// Whether a strip stands in a slot. The strip's leg and tally are in the cells.
+// Whether a strip stands in a slot. The strip's leg and tally are in the cells, so there is nothing
+// for an Option to hold.
 #[derive(Clone, Copy, PartialEq, Eq, Debug, Default)]
 pub enum Slot {
     Held,

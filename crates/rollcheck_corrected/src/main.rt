@@ -1,4 +1,5 @@
-// `rollcheck` on another bundle, since a program crate has one standard input.
+// `rollcheck` on another bundle, since a program crate has one standard input. The text is the same:
+// what reads standard input has no promise to make, and a library's calls all owe one.
 #![tactic(auto)]
 
 use bundle::check::answer;

@@ -126,6 +126,7 @@ fn refusals_in_their_order(rt: HostRuntime) {
 fn a_strip_takes_a_million_bytes(rt: HostRuntime) -> Result<(), Fail> {
     let piece = [7; 100000];
     let mut strip = begin(&Thirds);
+    // After n pieces.
     for n in 1..11 {
         assert_eq!(rt; feed(&Thirds, &mut strip, &piece)?, n * 100000);
     }
