@@ -14,7 +14,8 @@ pub(crate) fn word(bytes: &[u8], at: usize) -> usize
     ensures value { result ≡ word16 bytes.now at }
     ensures bound { result < 65536 }
 {
-    u16::from_be_bytes([byte(bytes, at), byte(bytes, at + 1)]) as usize
+    let word = u16::from_be_bytes([byte(bytes, at), byte(bytes, at + 1)]);
+    usize::from(word)
 }
 
 // The first `n` bytes, and those after them.

@@ -1,14 +1,10 @@
 // Files the strips of a bundle into a roll of 128 slots, and puts the questions to it.
 ghost use Rattle.std.specs.Prelude.{◌≡◌, [], ◌∷◌, length};
-ghost use Rattle.std.specs.List.{AllByRecursion};
-ghost use Rattle.roll.specs.Calls.{after};
-ghost use Rattle.roll.specs.Lending.{StillLent};
+ghost use Rattle.roll.specs.Lending.{with, StillLent};
 ghost use Rattle.roll.specs.Plain.{Plain};
-ghost use Rattle.roll.specs.Stands.{state, Stands};
-ghost use Rattle.folding.specs.Texts.{Bytes};
+ghost use Rattle.roll.specs.Stands.{Stands};
 ghost use Rattle.bundle.specs.Filing.{Filed};
 ghost use Rattle.bundle.specs.Handed.{piece, left, Short};
-ghost use Rattle.bundle.specs.Layout.{OfBytes};
 ghost use Rattle.bundle.specs.Outcome.{opened, filed, Reported};
 
 use crate::report::Report;
@@ -21,20 +17,21 @@ use roll::roll::Roll;
 
 const SLOTS: usize = 128;
 
+// The roll and what is lent with its calls stay two values here, as its calls take them.
 fn file_one<M: Judging>(roll: &mut Roll, lent: &mut LentMut<M>, strip: Strip) -> Result<(), Fault>
     requires short { Short strip }
-    ensures filed { (p : Plain) → length p ≡ 128 → Stands (M.Folding.leg lent.old.machine.now) (state roll.old lent.old.legs.now lent.old.tallies.now) p → Filed (M.Folding.leg lent.old.machine.now) (filed p (piece strip.entry ∷ [])) result (state roll.new lent.new.legs.now lent.new.tallies.now) }
+    ensures filed { (p : Plain) → length p ≡ 128 → Stands (M.Folding.leg lent.old.machine.now) (with roll.old lent.old) p → Filed (M.Folding.leg lent.old.machine.now) (filed p (piece strip.entry ∷ [])) result (with roll.new lent.new) }
     ensures lent { StillLent lent.old lent.new }
 {
     let open = feeding::strip_of(lent.machine, strip.text)?;
-    roll.file(lent, strip.slot as usize, open)?;
+    roll.file(lent, usize::from(strip.slot), open)?;
     Ok(())
 }
 
 // Files the strips in their order, a later one for a slot in place of an earlier one. The first
 // refusal ends it.
 fn file_all<M: Judging>(roll: &mut Roll, lent: &mut LentMut<M>, strips: Strips) -> Result<(), Fault>
-    ensures filed { (p : Plain) → length p ≡ 128 → Stands (M.Folding.leg lent.old.machine.now) (state roll.old lent.old.legs.now lent.old.tallies.now) p → Filed (M.Folding.leg lent.old.machine.now) (filed p (left strips.entry)) result (state roll.new lent.new.legs.now lent.new.tallies.now) }
+    ensures filed { (p : Plain) → length p ≡ 128 → Stands (M.Folding.leg lent.old.machine.now) (with roll.old lent.old) p → Filed (M.Folding.leg lent.old.machine.now) (filed p (left strips.entry)) result (with roll.new lent.new) }
     ensures lent { StillLent lent.old lent.new }
 {
     for strip in strips {

@@ -19,10 +19,7 @@ pub fn clear<F: Folding>(folding: &F, cells: &mut [F::Leg])
     ensures layout { (slots : List (List ℕ)) → Tree slots (under slots) }
 {
     let empty = folding.empty();
-    // Not `fill`: it asks for a clone that cannot fail, which a bound on `Copy` does not say.
-    for cell in cells.iter_mut() {
-        *cell = empty;
-    }
+    cells.fill_with(|| empty);
 }
 
 // Puts `leg` into a slot and joins again the cells above it, one join to a level. Refused where
@@ -54,7 +51,7 @@ fn climb<F: Folding>(folding: &F, cells: &mut [F::Leg], from: usize)
     ensures others { (k : ℕ) (d : F.Leg) → (Above k (from / 2) → ⊥) → slice_index_or cells.new k d ≡ slice_index_or cells.old k d }
 {
     let mut i = from / 2;
-    // No range goes from a cell to the one above it.
+    // No range goes from a cell to the one above it, and `successors` would say it no plainer.
     while i > 0 {
         let left = cells[2 * i];
         let right = cells[2 * i + 1];
@@ -92,7 +89,8 @@ pub fn whole<F: Folding>(folding: &F, cells: &[F::Leg]) -> F::Leg
     cells.get(1).copied().unwrap_or_else(|| folding.empty())
 }
 
-// The first slot at whose end the text so far is lost: the same fold, up to there.
+// The first slot at whose end the text so far is lost. It is no use of `fold`: it asks at each slot,
+// and stops there.
 pub fn first_lost<M: Judging>(machine: &M, cells: &[M::Leg]) -> Option<usize>
     ensures value { (slots : List (List ℕ)) → AllBytes slots → cells.now ≡ cells_of (M.Folding.leg machine.now) slots → FirstLost (M.Judging.means machine.now) slots result }
 {

@@ -52,7 +52,7 @@ impl Fragment {
         requires makes { ChangesSome (FnOnceReturnsAt F.FnOnce operation) }
         ensures value { (make : Regex → Regex) → Changes make (FnOnceReturnsAt F.FnOnce operation) → (e : Regex) → StandsFor e self.now.part → StandsFor (make e) result }
     {
-        let own = self.part?;
+        let own = self.part.as_ref()?;
         Some(Numbered {
             tables: operation(&own.tables),
             count: own.count,
@@ -69,14 +69,14 @@ impl Fragment {
         requires makes { JoinsSome (FnOnceReturnsAtPair F.FnOnce operation) }
         ensures value { (make : Regex → Regex → Regex) → Joins make (FnOnceReturnsAtPair F.FnOnce operation) → (e f : Regex) → StandsFor e self.now.part → StandsFor f second.now.part → StandsFor (make e f) result }
     {
-        let own = self.part?;
-        let other = second.part?;
+        let own = self.part.as_ref()?;
+        let other = second.part.as_ref()?;
         let count = own.count + other.count;
         if count > 63 {
             return None;
         }
         Some(Numbered {
-            tables: operation(&own.tables, &other.tables.later(own.count as usize)),
+            tables: operation(&own.tables, &other.tables.later(usize::from(own.count))),
             count,
         })
     }

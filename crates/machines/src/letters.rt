@@ -12,7 +12,8 @@ use std::array;
 fn between(low: u8, high: u8) -> [u64; 256]
     ensures members { (c p : ℕ) → c < 256 → Has (slice_index result c) p ↔ ((p ≡ 1) × ((low ≤ c) × (c ≤ high))) }
 {
-    array::from_fn(|c| only(2, (low as usize <= c) & (c <= high as usize)))
+    let (low, high) = (usize::from(low), usize::from(high));
+    array::from_fn(|c| only(2, (low <= c) & (c <= high)))
 }
 
 // Row c has place 1 if byte c is taken: at least one is.

@@ -2,14 +2,14 @@
 ghost use Rattle.std.specs.Prelude.{◌≡◌, ◌<◌, ◌≤◌, MatchResult};
 
 // A place's number, or 0 for the state before all places.
-#[derive(Clone, Copy)]
+#[derive(Clone, Copy, PartialEq, Eq, Debug)]
 pub struct PlaceNo {
     number: u8,
     ghost small: { number < 64 },
 }
 
 // The number was 64 or more, which no place has.
-#[derive(Clone, Copy)]
+#[derive(Clone, Copy, PartialEq, Eq, Debug)]
 pub struct NotAPlace;
 
 impl PlaceNo {
@@ -38,6 +38,6 @@ impl From<PlaceNo> for usize {
     ghost from_gives = { λ place index. (index ≡ place.number) × (index < 64) };
 
     fn from(place: PlaceNo) -> usize {
-        place.number as usize
+        usize::from(place.number)
     }
 }

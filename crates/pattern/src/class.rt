@@ -1,5 +1,6 @@
 // The class, from after its bracket: its state and the next byte together decide.
 ghost use Rattle.std.specs.Prelude.{◌≡◌, List, ◌++◌, IfOk, MatchResult};
+ghost use Rattle.pattern.specs.Cursors.{OnePattern};
 ghost use Rattle.pattern.specs.Characters.{escapable, class_kind, kind_is_itself};
 ghost use Rattle.pattern.specs.Expressions.{Range};
 ghost use Rattle.pattern.specs.Classes.{Follows, done_by, ClassHeard, ClassRead, ClassRefused};
@@ -19,7 +20,7 @@ pub enum Progress {
     DashEscape(u8),
 }
 
-// Where a byte leaves the class that it can stand in.
+// What a byte does that can stand where it is: the class goes on, or ends.
 #[derive(Clone, Copy)]
 pub enum Taken {
     Inside,
@@ -96,7 +97,7 @@ impl Progress {
 // Where the bracket stands that ends the class, and its members.
 pub(crate) fn gather<T: Gathering>(from: Cursor) -> Result<(Cursor, T), Fault>
     ensures cases { MatchResult result (λ o. ClassHeard from.entry.pattern.now from.entry.at o.0.at (T.Gathering.holds o.1)) (λ f. ClassRefused from.entry.pattern.now from.entry.at f) }
-    ensures same { IfOk result (λ o. o.0.pattern.now ≡ from.entry.pattern.now) }
+    ensures same { IfOk result (λ o. OnePattern from.entry o.0) }
 {
     let mut here = from;
     let mut progress = Progress::Empty;
@@ -114,7 +115,7 @@ pub(crate) fn gather<T: Gathering>(from: Cursor) -> Result<(Cursor, T), Fault>
 // Where the bracket stands that ends the class.
 pub(crate) fn end(from: Cursor) -> Result<Cursor, Fault>
     ensures cases { MatchResult result (λ end. ClassRead from.entry.pattern.now from.entry.at end.at) (λ f. ClassRefused from.entry.pattern.now from.entry.at f) }
-    ensures same { IfOk result (λ end. end.pattern.now ≡ from.entry.pattern.now) }
+    ensures same { IfOk result (λ end. OnePattern from.entry end) }
 {
     let (end, _) = gather::<Unseen>(from)?;
     Ok(end)

@@ -1,5 +1,6 @@
 // The count of places while a pattern is read. It stops at 64: nested counts multiply past any
-// number. It is a number that stops, as a tally's do, and no Option: each part is one sum or product.
+// number, and a count of 0 around them makes them 0 again. It is a number that stops, as a tally's
+// do, and no Option: each part is one sum or product.
 ghost use Rattle.std.specs.Prelude.{◌≡◌, min};
 ghost use Rattle.pattern.specs.Places.{places as places_of};
 
@@ -42,11 +43,11 @@ impl Assembly for Count {
     }
 
     fn then(&self, second: &Count) -> Count {
-        cap(self.places as u16 + second.places as u16)
+        cap(u16::from(self.places) + u16::from(second.places))
     }
 
     fn either(&self, other: &Count) -> Count {
-        cap(self.places as u16 + other.places as u16)
+        cap(u16::from(self.places) + u16::from(other.places))
     }
 
     fn star(&self) -> Count {
@@ -54,7 +55,7 @@ impl Assembly for Count {
     }
 
     fn plus(&self) -> Count {
-        cap(2 * self.places as u16)
+        cap(2 * u16::from(self.places))
     }
 
     fn optional(&self) -> Count {
@@ -62,6 +63,6 @@ impl Assembly for Count {
     }
 
     fn counted(&self, least: u8, most: u8) -> Count {
-        cap(most as u16 * self.places as u16)
+        cap(u16::from(most) * u16::from(self.places))
     }
 }

@@ -14,7 +14,7 @@ pub struct Cursor<'a> {
 }
 
 impl<'a> Cursor<'a> {
-    ghost use Rattle.pattern.specs.Cursors.{Stands, IsAtEnd};
+    ghost use Rattle.pattern.specs.Cursors.{Stands, IsAtEnd, OnePattern};
 
     // The byte here, where the pattern has not ended.
     pub(crate) fn peek(self) -> Option<u8>
@@ -32,7 +32,7 @@ impl<'a> Cursor<'a> {
 
     pub(crate) fn skip(self, len: usize) -> Cursor<'a>
         requires fits { self.at + len ≤ length self.pattern.now }
-        ensures pattern { result.pattern.now ≡ self.entry.pattern.now }
+        ensures pattern { OnePattern self.entry result }
         ensures at { result.at ≡ self.entry.at + len }
     {
         Cursor {
@@ -43,7 +43,7 @@ impl<'a> Cursor<'a> {
 
     pub(crate) fn next(self) -> Cursor<'a>
         requires inside { self.at < length self.pattern.now }
-        ensures pattern { result.pattern.now ≡ self.entry.pattern.now }
+        ensures pattern { OnePattern self.entry result }
         ensures at { result.at ≡ self.entry.at + 1 }
     {
         self.skip(1)
@@ -51,7 +51,7 @@ impl<'a> Cursor<'a> {
 
     // The part of the pattern from here to `end`.
     pub(crate) fn until(self, end: Cursor) -> &'a [u8]
-        requires same { end.pattern.now ≡ self.pattern.now }
+        requires same { OnePattern self end }
         requires forward { self.at ≤ end.at }
         ensures value { result.now ≡ slice_range self.entry.pattern.now self.entry.at end.entry.at }
     {

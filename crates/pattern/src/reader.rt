@@ -1,7 +1,7 @@
 // The pattern reader: it follows the signs of a pattern and puts their parts together. A group is
 // read by the reader itself, with one level less left to nest.
-ghost use Rattle.std.specs.Prelude.{◌≡◌, ◌<◌, length, IfOk, IfSome, MatchOption, MatchResult};
-ghost use Rattle.pattern.specs.Cursors.{Stands};
+ghost use Rattle.std.specs.Prelude.{IfOk, IfSome, MatchOption, MatchResult};
+ghost use Rattle.pattern.specs.Cursors.{OnePattern, Stands};
 ghost use Rattle.pattern.specs.Drafts.{Keeps};
 ghost use Rattle.pattern.specs.Walks.{Halts, Steps, StepStops, GroupRead, GroupStops, AlternativesRead, AlternativesStop};
 
@@ -16,7 +16,7 @@ use fault::Fault;
 fn group<T: Assembly>(from: Cursor, depth: u8) -> Result<(Cursor, T), Fault>
     requires paren { Stands from 40 }
     ensures cases { MatchResult result (λ o. GroupRead from.entry.pattern.now from.entry.at depth o.0.at (T.Assembly.stands o.1)) (λ f. GroupStops from.entry.pattern.now from.entry.at depth f) }
-    ensures same { IfOk result (λ o. o.0.pattern.now ≡ from.entry.pattern.now) }
+    ensures same { IfOk result (λ o. OnePattern from.entry o.0) }
 {
     if depth == 0 {
         return Err(from.refuse());
@@ -34,7 +34,7 @@ fn step<'a, T: Assembly>(
     draft: &Draft<T>,
 ) -> Result<Option<(Cursor<'a>, Draft<T>)>, Fault>
     ensures cases { MatchResult result (λ o. MatchOption o (Halts from.entry.pattern.now from.entry.at) (λ x. Steps from.entry.pattern.now from.entry.at depth (Keeps T.Assembly.stands draft.now) x.0.at (Keeps T.Assembly.stands x.1))) (λ f. StepStops from.entry.pattern.now from.entry.at depth (Keeps T.Assembly.stands draft.now) f) }
-    ensures same { IfOk result (λ o. IfSome o (λ x. x.0.pattern.now ≡ from.entry.pattern.now)) }
+    ensures same { IfOk result (λ o. IfSome o (λ x. OnePattern from.entry x.0)) }
 {
     let sign = sign_at(from.pattern, from.at, draft.last.is_some())?;
     let end = from.skip(sign.len());
@@ -66,7 +66,7 @@ fn step<'a, T: Assembly>(
 #[cycle(alternatives_group_step)]
 pub(crate) fn alternatives<T: Assembly>(from: Cursor, depth: u8) -> Result<(Cursor, T), Fault>
     ensures cases { MatchResult result (λ o. AlternativesRead from.entry.pattern.now from.entry.at depth o.0.at (T.Assembly.stands o.1)) (λ f. AlternativesStop from.entry.pattern.now from.entry.at depth f) }
-    ensures same { IfOk result (λ o. o.0.pattern.now ≡ from.entry.pattern.now) }
+    ensures same { IfOk result (λ o. OnePattern from.entry o.0) }
 {
     let mut here = from;
     let mut draft = Draft::new();

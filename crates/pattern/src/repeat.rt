@@ -1,6 +1,6 @@
 // The counted repeat, from after its brace: a least and a most count, or one for both.
 ghost use Rattle.std.specs.Prelude.{◌≡◌, ℕ, ◌+◌, ◌<◌, ◌≤◌, Decides, IfOk, MatchOption, MatchResult};
-ghost use Rattle.pattern.specs.Cursors.{Stands};
+ghost use Rattle.pattern.specs.Cursors.{OnePattern, Stands};
 ghost use Rattle.pattern.specs.Automaton.{count_kind, digit, count_can_begin, count_can_go_on};
 ghost use Rattle.pattern.specs.Repeats.{NumberRead, NumberRefused, CountsRead, CountsRefused};
 
@@ -18,24 +18,22 @@ fn digit_at(from: Cursor) -> Option<u8>
 
 // Alone or with one more digit, `first` is a count from `least` to 32.
 fn can_begin(least: u8, first: u8) -> bool
-    requires digit { first < 10 }
     ensures value { result ≡ count_can_begin least first }
 {
     least <= first || (1 <= first && first <= 3 && least <= 10 * first + 9)
 }
 
 fn can_go_on(least: u8, first: u8, second: u8) -> bool
-    requires first { first < 10 }
-    requires second { second < 10 }
     ensures value { result ≡ count_can_go_on least first second }
 {
-    1 <= first && least <= 10 * first + second && 10 * first + second <= 32
+    let both = 10 * u16::from(first) + u16::from(second);
+    1 <= first && u16::from(least) <= both && both <= 32
 }
 
 // A count is at most 32, so it has one or two digits.
 fn number(from: Cursor, least: u8) -> Result<(u8, Cursor), Fault>
     ensures cases { MatchResult result (λ o. NumberRead from.entry.pattern.now from.entry.at least o.0 o.1.at) (λ f. NumberRefused from.entry.pattern.now from.entry.at least f) }
-    ensures same { IfOk result (λ o. o.1.pattern.now ≡ from.entry.pattern.now) }
+    ensures same { IfOk result (λ o. OnePattern from.entry o.1) }
 {
     let Some(first) = digit_at(from) else {
         return Err(from.refuse());
@@ -61,7 +59,7 @@ fn closes(from: Cursor, least: u8, most: u8) -> bool
 
 pub(crate) fn counts(from: Cursor) -> Result<((u8, u8), Cursor), Fault>
     ensures cases { MatchResult result (λ o. CountsRead from.entry.pattern.now from.entry.at o.0.0 o.0.1 o.1.at) (λ f. CountsRefused from.entry.pattern.now from.entry.at f) }
-    ensures same { IfOk result (λ o. o.1.pattern.now ≡ from.entry.pattern.now) }
+    ensures same { IfOk result (λ o. OnePattern from.entry o.1) }
 {
     let (least, after) = number(from, 0)?;
     match after.byte()? as char {

@@ -4,10 +4,9 @@ ghost use Rattle.folding.specs.Texts.{Bytes};
 ghost use Rattle.std.specs.Result.{result_err};
 ghost use Rattle.roll.specs.Calls.{done, tallied, judged, named};
 ghost use Rattle.roll.specs.Law.{Law};
-ghost use Rattle.roll.specs.Lending.{StillLent};
+ghost use Rattle.roll.specs.Lending.{with, before, StillLent};
 ghost use Rattle.roll.specs.Refusals.{withdrawal, verdict, totals, culprit, room};
 ghost use Rattle.roll.specs.Sizes.{allowed as allowed_size};
-ghost use Rattle.roll.specs.Stands.{state};
 ghost use Rattle.roll.specs.Steps.{heard, AsMade, Opens, Files, Does};
 ghost use Rattle.roll.specs.declared.slot.Slot.TheVariants.{Empty};
 
@@ -50,7 +49,7 @@ impl Roll {
 
     // Gives the roll n empty slots, whatever it held.
     pub fn open<M: Judging>(&mut self, lent: &mut LentMut<M>, n: usize) -> Result<(), Fault>
-        ensures opens { Opens (M.Folding.leg lent.old.machine.now) (state self.old lent.old.legs.now lent.old.tallies.now) n result (state self.new lent.new.legs.now lent.new.tallies.now) }
+        ensures opens { Opens (M.Folding.leg lent.old.machine.now) (with self.old lent.old) n result (with self.new lent.new) }
         ensures lent { StillLent lent.old lent.new }
     {
         if !allowed(n) {
@@ -72,7 +71,7 @@ impl Roll {
         slot: usize,
         strip: Strip<M::Leg>,
     ) -> Result<Tally, Returned<M::Leg>>
-        ensures files { Files (M.Folding.leg lent.old.machine.now) (M.Judging.means lent.old.machine.now) (state self.old lent.old.legs.now lent.old.tallies.now) slot strip result (state self.new lent.new.legs.now lent.new.tallies.now) }
+        ensures files { Files (M.Folding.leg lent.old.machine.now) (M.Judging.means lent.old.machine.now) (with self.old lent.old) slot strip result (with self.new lent.new) }
         ensures lent { StillLent lent.old lent.new }
     {
         if let Err(fault) = self.slot_at(&lent.shared(), slot) {
@@ -88,7 +87,7 @@ impl Roll {
 
     // Empties a held slot.
     pub fn withdraw<M: Judging>(&mut self, lent: &mut LentMut<M>, slot: usize) -> Result<(), Fault>
-        ensures does { Does (M.Folding.leg lent.old.machine.now) (M.Judging.means lent.old.machine.now) (state self.old lent.old.legs.now lent.old.tallies.now) (withdrawal slot) (heard (λ _. done) result) (state self.new lent.new.legs.now lent.new.tallies.now) }
+        ensures does { Does (M.Folding.leg lent.old.machine.now) (M.Judging.means lent.old.machine.now) (with self.old lent.old) (withdrawal slot) (heard (λ _. done) result) (with self.new lent.new) }
         ensures lent { StillLent lent.old lent.new }
     {
         self.slot_at(&lent.shared(), slot)?;
@@ -97,6 +96,7 @@ impl Roll {
             return Err(Layer::Roll.fault(Refusal::SlotEmpty, slot));
         }
         let empty = lent.machine.empty();
+        // Nor here.
         let _ = cells::put(lent.machine, lent.legs, slot, empty);
         let _ = cells::put(&Tallying, lent.tallies, slot, Tallying.empty());
         self.slots.as_mut_slice()[slot].clear();
@@ -105,7 +105,7 @@ impl Roll {
 
     // Whether the machine means the joined text.
     pub fn verdict<M: Judging>(&self, lent: &Lent<M>) -> Result<bool, Fault>
-        ensures does { Does (M.Folding.leg lent.now.machine.now) (M.Judging.means lent.now.machine.now) (state self.now lent.now.legs.now lent.now.tallies.now) verdict (heard judged result) (state self.now lent.now.legs.now lent.now.tallies.now) }
+        ensures does { Does (M.Folding.leg lent.now.machine.now) (M.Judging.means lent.now.machine.now) (before self.now lent.now) verdict (heard judged result) (before self.now lent.now) }
     {
         lent.fit(self.slots.len())?;
         Ok(judge(lent.machine, &cells::whole(lent.machine, lent.legs)))
@@ -113,7 +113,7 @@ impl Roll {
 
     // The tally of the joined text.
     pub fn totals<M: Judging>(&self, lent: &Lent<M>) -> Result<Tally, Fault>
-        ensures does { Does (M.Folding.leg lent.now.machine.now) (M.Judging.means lent.now.machine.now) (state self.now lent.now.legs.now lent.now.tallies.now) totals (heard tallied result) (state self.now lent.now.legs.now lent.now.tallies.now) }
+        ensures does { Does (M.Folding.leg lent.now.machine.now) (M.Judging.means lent.now.machine.now) (before self.now lent.now) totals (heard tallied result) (before self.now lent.now) }
     {
         lent.fit(self.slots.len())?;
         Ok(cells::whole(&Tallying, lent.tallies))
@@ -121,13 +121,13 @@ impl Roll {
 
     // The first slot at whose end the text so far is lost.
     pub fn culprit<M: Judging>(&self, lent: &Lent<M>) -> Result<Option<usize>, Fault>
-        ensures does { Does (M.Folding.leg lent.now.machine.now) (M.Judging.means lent.now.machine.now) (state self.now lent.now.legs.now lent.now.tallies.now) culprit (heard named result) (state self.now lent.now.legs.now lent.now.tallies.now) }
+        ensures does { Does (M.Folding.leg lent.now.machine.now) (M.Judging.means lent.now.machine.now) (before self.now lent.now) culprit (heard named result) (before self.now lent.now) }
     {
         lent.fit(self.slots.len())?;
         Ok(cells::first_lost(lent.machine, lent.legs))
     }
 
-    // Whether the lent cells are this roll's, and then whether there is such a slot.
+    // Refuses cells that are not this roll's, and then a slot that there is not.
     fn slot_at<M: Judging>(&self, lent: &Lent<M>, slot: usize) -> Result<(), Fault>
         ensures value { result_err result ≡ room (length self.now.slots.items) slot (length lent.now.legs.now) (length lent.now.tallies.now) }
     {
@@ -143,7 +143,5 @@ fn empty_slots(n: usize) -> ArrayVec<Slot, 128>
     requires few { n ≤ 128 }
     ensures value { result.items ≡ replicate n Empty }
 {
-    let mut slots = ArrayVec::new();
-    let _ = slots.try_extend_from_slice(&[Slot::Empty; 128][..n]);
-    slots
+    ArrayVec::try_from(&[Slot::Empty; 128][..n]).unwrap()
 }

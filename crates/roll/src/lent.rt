@@ -17,7 +17,7 @@ pub struct Lent<'a, M: Judging> {
 }
 
 impl<M: Judging> Lent<'_, M> {
-    // Whether the cells are those of n slots.
+    // Refuses cells that are not those of n slots.
     pub(crate) fn fit(&self, n: usize) -> Result<(), Fault>
         requires few { n ≤ 128 }
         ensures value { result_err result ≡ tables n (length self.now.legs.now) (length self.now.tallies.now) }
@@ -32,7 +32,8 @@ impl<M: Judging> Lent<'_, M> {
     }
 }
 
-// The same for a call that writes the cells.
+// The same for a call that writes the cells. It is a type of its own, since who holds the cells only
+// to read them has questions too.
 #[derive(Drop)]
 pub struct LentMut<'m, 'c, M: Judging> {
     pub machine: &'m M,

@@ -1,5 +1,5 @@
 // A strip begun, fed and filed. What is filed is taken away: neither feeding it again nor filing it
-// into a second slot compiles.
+// into a second slot compiles. It is begun and fed apart, so that those two can be tried here.
 use fault::Fault;
 use folding::fold::Judging;
 use folding::tally::Tally;

@@ -1,10 +1,12 @@
-use Rattle.std.proofs.Common.{arith}
-use Rattle.folding.proofs.Entries.{cleared}
+use Rattle.std.proofs.Common.{[], rules}
+use Rattle.folding.proofs.Entries.{filled, cleared}
 use Rattle.folding.proofs.Trees.{tree}
 use Rattle.folding.proofs.cells.clear.Goals as goal
 
-pub returns : goal.returns
-returns g c = record {
-  cells = cleared _ _ _ c.loop-cell.auto.cells (λ k lt. c.loop-cell.invariant.1 k (let all = c.loop-cell-test.false in let same = c.loop-cell.auto.cells in omega arith));
-  layout = tree;
-}
+pub returns-clause-cells : goal.returns-clause-cells
+returns-clause-cells g c =
+    let ran = c.fill_with.ensures.ran in
+    cleared (g.F.Folding.leg c.args.folding.now) _ _ c.fill_with.ensures.len (filled _ (g.F.Folding.leg c.args.folding.now []) _ (λ x v call. search rules) _ ran.0 ran.1)
+
+pub returns-clause-layout : goal.returns-clause-layout
+returns-clause-layout g c = tree
