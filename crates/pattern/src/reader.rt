@@ -1,5 +1,6 @@
 // The pattern reader: it follows the signs of a pattern and puts their parts together. A group is
-// read by the reader itself, with one level less left to nest.
+// read by the reader itself, with one level less left to nest. That depth is no part of a cursor: it
+// goes with one through these three functions alone.
 ghost use Rattle.std.specs.Prelude.{IfOk, IfSome, MatchOption, MatchResult};
 ghost use Rattle.pattern.specs.Cursors.{OnePattern, Stands};
 ghost use Rattle.pattern.specs.Drafts.{Keeps};
