@@ -28,7 +28,7 @@ fn announced(input: &[u8]) -> usize
     let n = bytes::word(input, 0);
     let p = bytes::word(input, 2);
     let mut size = 4 + 3 * n + p;
-    // A length's place is reckoned from k, since the input need not reach so far.
+    // Lengths that the input has no bytes for count as 0, so there is no part of it to go over.
     for k in 0..n {
         size += bytes::word(input, 4 + n + 2 * k);
     }

@@ -17,7 +17,7 @@ use roll::roll::Roll;
 
 const SLOTS: usize = 128;
 
-// The roll and what is lent with its calls stay two values here, as its calls take them.
+// The roll and what is lent with its calls stay two values: a roll outlives what is lent.
 fn file_one<M: Judging>(roll: &mut Roll, lent: &mut LentMut<M>, strip: Strip) -> Result<(), Fault>
     requires short { Short strip }
     ensures filed { (p : Plain) → length p ≡ 128 → Stands (M.Folding.leg lent.old.machine.now) (with roll.old lent.old) p → Filed (M.Folding.leg lent.old.machine.now) (filed p (piece strip.entry ∷ [])) result (with roll.new lent.new) }

@@ -3,7 +3,7 @@
 use crate::spans;
 use fault::Fault;
 use folding::fold::Folding;
-use folding::tally::Tally;
+use folding::tally::Tallying;
 use machines::assembling::build;
 use machines::place::PlaceMachine;
 use pattern::record::Pattern;
@@ -12,9 +12,8 @@ use roll::lent::LentMut;
 use roll::roll::Roll;
 use std::fmt;
 
-const NONE: Tally = Tally { bytes: 0, lines: 0 };
-
-// What the two say of a text: that it follows the pattern, that it doesn't, or not the same.
+// What the two say of a text: that it follows the pattern, that it doesn't, or not the same; or that
+// a call was refused, which is a line to print as the others are.
 #[derive(Clone, Copy)]
 pub(crate) enum Comparison {
     Yes,
@@ -39,7 +38,7 @@ fn cut(machine: &PlaceMachine, text: &[u8], i: usize, j: usize, k: usize) -> Res
     let mut lent = LentMut {
         machine,
         legs: &mut [machine.empty(); 8],
-        tallies: &mut [NONE; 8],
+        tallies: &mut [Tallying.empty(); 8],
     };
     let mut roll = Roll::new::<PlaceMachine, PlaceMachine>();
     roll.open(&mut lent, 4)?;

@@ -50,10 +50,13 @@ impl Spans {
     }
 
     fn times(&self, least: u32, most: u32) -> Spans {
+        let spare = Spans::everywhere().or(self);
         let mut all = Spans::everywhere();
-        for k in 0..most {
-            let more = all.then(self);
-            all = if k < least { more } else { all.or(&more) };
+        for _ in 0..least {
+            all = all.then(self);
+        }
+        for _ in least..most {
+            all = all.then(&spare);
         }
         all
     }

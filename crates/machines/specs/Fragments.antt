@@ -2,7 +2,7 @@
 --
 --   Represents e t n   n is the number of e's places, or 64 if there are more than 63; up to 63, t is e's machine
 --   Part t n           t and n represent some expression
---   TooMany e          e has more than 63 places
+--   TooMany e          e is sane, and has more than 63 places
 use Rattle.std.specs.Prelude.{◌≡◌, ℕ, ◌<◌, ◌≤◌, min}
 use Rattle.pattern.specs.Expressions.{Regex}
 use Rattle.pattern.specs.Places.{places}

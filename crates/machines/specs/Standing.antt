@@ -1,6 +1,6 @@
 -- What a part of a machine stands for. Assumes nothing.
 --
---   StandsFor e o   the tables and the count represent e, or there are none, and e has more than 63 places
+--   StandsFor e o   the tables and the count represent e, or there are none, and e is sane and has more than 63 places
 use Rattle.std.specs.Prelude.{Option, MatchOption}
 use Rattle.pattern.specs.Expressions.{Regex}
 use Rattle.machines.specs.declared.fragment.Numbered.{Numbered}

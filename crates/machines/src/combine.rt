@@ -16,8 +16,8 @@ pub(crate) fn both<const N: usize>(a: &[u64; N], b: &[u64; N]) -> [u64; N]
     array::from_fn(|k| a[k] | b[k])
 }
 
-// `q` and `by` are plain numbers with a bound, as `from_fn` hands them out: a number of their own
-// would be made and taken apart again at each row.
+// A row's number `q` is what `from_fn` hands out, and `by` is a count of places: a type that holds
+// their bound would be made and taken apart again at each row, which is no plainer.
 impl Tables {
     // No place: only the empty text.
     pub(crate) fn none() -> Tables

@@ -17,7 +17,7 @@ pub(crate) fn gather(rows: &[u64; 64], set: u64) -> u64
     all
 }
 
-// Whether state `q` is in the set.
+// Whether state `q` is in the set. Here and below a number is a plain one, as the rows' are.
 pub(crate) fn has(set: u64, q: usize) -> bool
     requires within { q < 64 }
     ensures cases { Decides result (Has set q) }

@@ -40,7 +40,7 @@ impl Folding for PlaceMachine {
 
     fn step(&self, at: &Relation, c: u8) -> Relation {
         let takes = self.tables.takes[usize::from(c)];
-        // Not by `Relation::then`: the byte's mask goes on each row in the same pass.
+        // Not by `Relation::then`: the byte's mask would then need a pass of its own, which is no plainer.
         Relation {
             rows: array::from_fn(|q| masks::gather(&self.tables.follow, at.rows[q]) & takes),
         }

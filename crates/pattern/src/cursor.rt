@@ -1,5 +1,6 @@
-// A place in a pattern, which is never past its end: what each private reader is given, and what it
-// hands back where it ends.
+// A place in a pattern, which is never past its end: what each private reader is given, and what
+// those that read on hand back. That it stands in the same pattern each says of the two
+// (`OnePattern`), since no field of one can.
 ghost use Rattle.std.specs.Prelude.{◌≡◌, ◌+◌, ◌<◌, ◌≤◌, length, MatchOption, MatchResult, slice_range};
 ghost use Rattle.fault.specs.declared.Refusal.TheVariants.{BadlyWritten};
 ghost use Rattle.pattern.specs.Refusals.{refused};

@@ -8,7 +8,7 @@ use folding::fold::Judging;
 use folding::tally::Tally;
 
 // The machine, and the cells of the slots' texts: 2N legs and 2N tallies, where the roll has N slots.
-// They are two tables and not one of pairs, since each is lent by itself and refused for its own length.
+// They are two tables and not one of pairs, since each is kept by itself and refused for its own length.
 #[derive_where(Clone, Copy)]
 pub struct Lent<'a, M: Judging> {
     pub machine: &'a M,

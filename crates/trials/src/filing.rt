@@ -1,5 +1,6 @@
 // A strip begun, fed and filed. What is filed is taken away: neither feeding it again nor filing it
-// into a second slot compiles. It is begun and fed apart, so that those two can be tried here.
+// into a second slot compiles. It is begun and fed apart, so that those two can be tried here. The
+// roll and what is lent with its calls stay two values, as a roll outlives what is lent.
 use fault::Fault;
 use folding::fold::Judging;
 use folding::tally::Tally;

@@ -5,20 +5,18 @@ use crate::thirds::Thirds;
 use crate::zeroless::Zeroless;
 use bundle::report::Report;
 use fault::{Fault, Layer, Refusal};
-use folding::fold::Judging;
-use folding::tally::Tally;
+use folding::fold::{Folding, Judging};
+use folding::tally::{Tally, Tallying};
 use roll::feeding::{begin, feed};
 use roll::lent::{Lent, LentMut};
 use roll::roll::Roll;
 use std::test::Fail;
 
-const NONE: Tally = Tally { bytes: 0, lines: 0 };
-
 fn refused<T>(refusal: Refusal, place: usize) -> Result<T, Fault> {
     Err(Layer::Roll.fault(refusal, place))
 }
 
-// The answers to the three questions.
+// The answers to the three questions, which are put to the roll itself.
 fn asked<M: Judging>(roll: &Roll, lent: &Lent<M>) -> Result<Report, Fault> {
     Ok(Report {
         verdict: roll.verdict(lent)?,
@@ -47,7 +45,7 @@ fn a_roll_by_threes(rt: HostRuntime) -> Result<(), Fail> {
     let mut lent = LentMut {
         machine: &Thirds,
         legs: &mut [0; 8],
-        tallies: &mut [NONE; 8],
+        tallies: &mut [Tallying.empty(); 8],
     };
     assert_eq!(rt; roll.open(&mut lent, 3), refused(Refusal::SlotCount, 3));
     roll.open(&mut lent, 4)?;
@@ -79,7 +77,7 @@ fn a_roll_without_zeros(rt: HostRuntime) -> Result<(), Fail> {
     let mut lent = LentMut {
         machine: &Zeroless,
         legs: &mut [false; 4],
-        tallies: &mut [NONE; 4],
+        tallies: &mut [Tallying.empty(); 4],
     };
     roll.open(&mut lent, 2)?;
     assert_eq!(rt; roll.withdraw(&mut lent, 1), refused(Refusal::SlotEmpty, 1));
@@ -106,7 +104,7 @@ fn refusals_in_their_order(rt: HostRuntime) {
     let mut lent = LentMut {
         machine: &Zeroless,
         legs: &mut [false; 4],
-        tallies: &mut [NONE; 6],
+        tallies: &mut [Tallying.empty(); 6],
     };
     assert_eq!(rt; roll.open(&mut lent, 0), refused(Refusal::SlotCount, 0));
     assert_eq!(rt; roll.open(&mut lent, 256), refused(Refusal::SlotCount, 256));
