@@ -1,5 +1,5 @@
 -- What a granted call says of the lent tables and the slot. Assumes nothing.
-use Rattle.std.proofs.Common.{◌≡◌, ℕ, ◌*◌, ◌<◌, Bool, true, false, eqb, ltb, List, length, get_or, Some, None, Option, sym, refl, ap, ◌∙◌, arith}
+use Rattle.std.proofs.Common.{◌≡◌, ℕ, ◌*◌, ◌/◌, ◌<◌, Bool, true, false, eqb, ltb, List, length, get_or, Some, None, Option, sym, refl, ap, ◌∙◌, arith}
 use Rattle.std.proofs.lemmas.List.{get_or_default}
 use Rattle.std.proofs.lemmas.Bool.{eqb-true, ltb-true}
 use Rattle.fault.specs.declared.Fault.{Fault}
@@ -31,6 +31,15 @@ tables_none n l t e =
 
 pub room_none : (n s l t : ℕ) → room n s l t ≡ None → s < n
 room_none n s l t e = ltb-true s n (unless_none (ltb s n) (fault NoSuchSlot s) (first_none (tables n l t) (unless (ltb s n) (fault NoSuchSlot s)) e).1)
+
+-- the slot is one of either table
+pub room_half : (n s l t : ℕ) → room n s l t ≡ None → (s < l / 2) × (s < t / 2)
+room_half n s l t e =
+    let fits = tables_none n l t (first_none (tables n l t) (unless (ltb s n) (fault NoSuchSlot s)) e).0 in
+    let legs = fits.0 in
+    let tallies = fits.1 in
+    let in' = room_none n s l t e in
+    (omega arith, omega arith)
 
 pub not_refused : (a : Answer) (f : Fault) → fault_of a ≡ None → a ≡ refused f → ⊥
 not_refused a f granted e = none≢some f (sym granted ∙ ap fault_of e)

@@ -12,16 +12,19 @@ use Rattle.folding.specs.declared.tally.Tally.{Tally}
 use Rattle.folding.proofs.Texts.{bytes_append, bytes_together}
 use Rattle.folding.proofs.Trees.{together_append}
 use Rattle.roll.specs.Calls.{Answer, judged, tallied, named, refused, Gives, Answers}
-use Rattle.roll.specs.Law.{plain, Newest, Law}
+use Rattle.roll.specs.Histories.{plain}
+use Rattle.roll.specs.Law.{Newest, Law}
 use Rattle.roll.specs.Plain.{Plain, texts, whole, marks}
 use Rattle.roll.specs.Refusals.{Call, verdict, totals, culprit, refusal}
 use Rattle.roll.specs.Runs.{Event}
 use Rattle.roll.specs.Steps.{fault_of}
 use Rattle.roll.proofs.Granting.{not_refused}
-use Rattle.roll.proofs.Tracing.{traced}
+use Rattle.roll.proofs.Following.{following}
+use Rattle.roll.proofs.Meeting.{meeting}
+use Rattle.roll.proofs.Tracing.{turned_same, traced}
 
 -- an answer that is no refusal is given by the plain roll
-given : (M : List ℕ → Type 0) (p : Plain) (c : Call) (l t : ℕ) (a : Answer) → fault_of a ≡ None → Answers M p c l t a → Gives M p c a
+pub given : (M : List ℕ → Type 0) (p : Plain) (c : Call) (l t : ℕ) (a : Answer) → fault_of a ≡ None → Answers M p c l t a → Gives M p c a
 given M p c l t a free says = go (refusal (marks p) c l t) says
   where
     go : (o : Option Fault) → MatchOption o (Gives M p c a) (λ f. a ≡ refused f) → Gives M p c a
@@ -86,6 +89,12 @@ module _ (M : List ℕ → Type 0) (some : Hopeful M []) (ts : List (List ℕ)) 
 pub lawful : {L K : Type 0} (leg : List ℕ → L) (M : List ℕ → Type 0) (leg' : List ℕ → K) (M' : List ℕ → Type 0) → Hopeful M [] → Law leg M leg' M'
 lawful leg M leg' M' some = record {
   answers = λ s h run. (traced leg M run).right;
+  stands = λ s h run. (traced leg M run).stands;
+  unchanged = λ s lent is c a turned. turned_same leg M turned;
+  follows = λ s s' h h' g g' run run' same left asks.
+      let here = traced leg M run in
+      (following M M' same g g' h h' here.right (traced leg' M' run').right here.bytes left asks).0;
+  refusals = λ r h met. meeting met;
   verdict = verdict_is leg M;
   totals = totals_are leg M;
   verdicts = λ h h' b b' n n' same e.

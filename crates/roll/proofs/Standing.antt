@@ -13,10 +13,10 @@ use Rattle.folding.specs.Texts.{Bytes, AllBytes, together}
 use Rattle.folding.proofs.Entries.{length_cells, half_cells}
 use Rattle.roll.specs.Plain.{Plain, texts, whole, mark, marks}
 use Rattle.roll.specs.Sizes.{sized}
-use Rattle.roll.specs.Refusals.{Call, fault, unless, first, tables, refusal}
+use Rattle.roll.specs.Refusals.{Call, fault, unless, first, tables, refusal, marked}
 use Rattle.roll.specs.Stands.{State, slots, Stands}
 use Rattle.roll.specs.Calls.{Answer}
-use Rattle.roll.specs.Steps.{fault_of, refusal_at, Refuses}
+use Rattle.roll.specs.Steps.{fault_of, refusal_at, Always}
 use Rattle.roll.proofs.Granting.{not_refused}
 use Rattle.roll.specs.declared.slot.Slot.TheVariants.{Empty}
 use Rattle.roll.proofs.Sizing.{sized_cases}
@@ -55,8 +55,8 @@ stands_whole of all p r size bytes is gathers none =
     (sized_cases (length p) size)
 
 -- one mark written through the vector's slice
-pub marked : {X : Type 0} (xs ys : List X) (i : ℕ) (a b : X) → ys ≡ xs → a ≡ b → refill (length xs) xs (set ys i a) ≡ set xs i b
-marked xs ys i a b same new =
+pub mark_written : {X : Type 0} (xs ys : List X) (i : ℕ) (a b : X) → ys ≡ xs → a ≡ b → refill (length xs) xs (set ys i a) ≡ set xs i b
+mark_written xs ys i a b same new =
     let long : length (set ys i a) ≡ length xs = length-set ys i a ∙ ap length same in
     ap (λ rest. take (length xs) (set ys i a ++ rest)) (drop_of_length-le xs (omega arith))
     ∙ ap (take (length xs)) (append-nil (set ys i a))
@@ -66,10 +66,10 @@ marked xs ys i a b same new =
 
 -- one slot's record is set, and its text replaced in both tables
 pub stands_set : {L : Type 0} (leg : List ℕ → L) (s is : State L) (p : Plain) → Stands leg s p → (n : ℕ) (o : Option (List ℕ)) → Bytes (unwrap_or o []) → slots is.roll ≡ set (slots s.roll) n (mark o) → is.legs ≡ cells leg (set (texts p) n (unwrap_or o [])) → is.tallies ≡ cells tally (set (texts p) n (unwrap_or o [])) → Stands leg is (set p n o)
-stands_set leg s is p stands n o bytes marked legs tallies =
+stands_set leg s is p stands n o bytes held legs tallies =
     let new : texts (set p n o) ≡ set (texts p) n (unwrap_or o []) = map-set (λ o. unwrap_or o []) p n o in
     record {
-      held = marked ∙ ap (λ l. set l n (mark o)) stands.held ∙ sym (map-set mark p n o);
+      held = held ∙ ap (λ l. set l n (mark o)) stands.held ∙ sym (map-set mark p n o);
       bytes = subst AllBytes (sym new) (All-set Bytes (texts p) n (unwrap_or o []) bytes stands.bytes);
       legs = legs ∙ ap (cells leg) (sym new);
       tallies = tallies ∙ ap (cells tally) (sym new);
@@ -77,10 +77,10 @@ stands_set leg s is p stands n o bytes marked legs tallies =
 
 -- empty slots
 pub stands_empty : {L : Type 0} (leg : List ℕ → L) (is : State L) (n : ℕ) → slots is.roll ≡ replicate n Empty → is.legs ≡ cells leg (replicate n []) → is.tallies ≡ cells tally (replicate n []) → Stands leg is (replicate n None)
-stands_empty leg is n marked legs tallies =
+stands_empty leg is n held legs tallies =
     let none : texts (replicate n None) ≡ replicate n [] = map_replicate (λ o. unwrap_or o []) n None in
     record {
-      held = marked ∙ sym (map_replicate mark n None);
+      held = held ∙ sym (map_replicate mark n None);
       bytes = subst AllBytes (sym none) (all_empty n);
       legs = legs ∙ ap (cells leg) (sym none);
       tallies = tallies ∙ ap (cells tally) (sym none);
@@ -95,5 +95,15 @@ stands_empty leg is n marked legs tallies =
     all_empty (suc k) = (tt, all_empty k)
 
 -- a granted call refuses nothing
-pub grants : {L : Type 0} {was is : State L} {c : Call} (a : Answer) → fault_of a ≡ None → refusal_at was c ≡ None → Refuses was c a is
-grants {was = was} {is = is} a free which = record { which = which ∙ sym free; same = λ f e. absurd {A = is ≡ was} (not_refused a f free e) }
+pub grants : {L : Type 0} {was is : State L} {c : Call} (a : Answer) → fault_of a ≡ None → refusal_at was c ≡ None → slots is.roll ≡ marked (slots was.roll) c → Always was c a is
+grants {was = was} {is = is} a free which marks = record {
+  roll = record { which = which ∙ sym free; same = λ f e. absurd {A = is.roll ≡ was.roll} (not_refused a f free e); marks = λ granted. marks };
+  tables = λ f e. absurd (not_refused a f free e);
+}
+
+-- a question changes nothing
+pub asks : {L : Type 0} (s : State L) (c : Call) (a : Answer) → refusal_at s c ≡ fault_of a → slots s.roll ≡ marked (slots s.roll) c → Always s c a s
+asks s c a which marks = record {
+  roll = record { which = which; same = λ f e. refl; marks = λ granted. marks };
+  tables = λ f e. (refl, refl);
+}

@@ -1,53 +1,48 @@
 -- The law over runs: between two rolls only the text filed tells. Assumes nothing.
 --
---   plain h       the plain roll after the calls of h
---   Right M h     every answer and refusal of h is the plain roll's, where M is the machine's set
 --   Same M M'     the two sets have the same texts
+--   Newest ..     the newest call of a run was this one, and was answered so
 --   Law           what holds of every run under a machine, and of any two runs under two machines
-use Rattle.std.specs.Prelude.{◌≡◌, ℕ, Bool, List, [], ◌∷◌, Some, None, Decides, Option}
-use Rattle.fault.specs.declared.Fault.{Fault}
+use Rattle.std.specs.Prelude.{◌≡◌, ℕ, Bool, List, ◌∷◌, ◌++◌, map, None, Decides, Option}
 use Rattle.folding.specs.Losing.{FirstLost}
 use Rattle.folding.specs.Sets.{Hopeful}
 use Rattle.folding.specs.Tallies.{tally}
 use Rattle.folding.specs.Texts.{Bytes}
 use Rattle.folding.specs.declared.tally.Tally.{Tally}
-use Rattle.roll.specs.Calls.{Answer, judged, tallied, named, after, Answers}
-use Rattle.roll.specs.Plain.{Plain, texts, whole, marks}
-use Rattle.roll.specs.Refusals as refusals
-use Rattle.roll.specs.Refusals.{Call, refusal}
-use Rattle.roll.specs.Runs.{Event, Run}
-use Rattle.roll.specs.Stands.{State}
-
--- a refused call leaves the plain roll as it was
-abbrev pub keep : Option Fault → Plain → Plain → Plain
-keep None was is = is
-keep (Some f) was is = was
-
-abbrev pub plain : List Event → Plain
-plain [] = []
-plain (e ∷ h) = keep (refusal (marks (plain h)) e.call e.legs e.tallies) (plain h) (after (plain h) e.call)
-
-abbrev pub Right : (List ℕ → Type 0) → List Event → Type 0
-Right M [] = Unit {0}
-Right M (e ∷ h) = Right M h × Answers M (plain h) e.call e.legs e.tallies e.answer
+use Rattle.roll.specs.Calls.{Answer, judged, tallied, named}
+use Rattle.roll.specs.Histories.{plain, held, Right, Due, asked}
+use Rattle.roll.specs.Plain.{texts, whole}
+use Rattle.roll.specs.Refusals as on
+use Rattle.roll.specs.Refusals.{Call}
+use Rattle.roll.specs.Runs.{Event, Turned, Run, Met}
+use Rattle.roll.specs.Stands.{State, slots, Stands}
+use Rattle.roll.specs.declared.roll.Roll.{Roll}
 
 abbrev pub Same : (List ℕ → Type 0) → (List ℕ → Type 0) → Type 0
 Same M M' = (w : List ℕ) → Bytes w → (M w → M' w) × (M' w → M w)
 
--- the newest call of a run was this one, and was answered so
 abbrev pub Newest : {L : Type 0} → (List ℕ → L) → (List ℕ → Type 0) → List Event → Call → Answer → Type 0
 Newest {L} leg M h c a = (s : State L) × (e : Event) × Run leg M s (e ∷ h) × (e.call ≡ c) × (e.answer ≡ a)
 
 pub record Law {L K : Type 0} (leg : List ℕ → L) (M : List ℕ → Type 0) (leg' : List ℕ → K) (M' : List ℕ → Type 0) : Type 0 where
   -- call by call, every answer and refusal is the plain roll's
   pub answers : (s : State L) (h : List Event) → Run leg M s h → Right M h
+  -- the roll and its cells are those of the slots and texts that the calls left
+  pub stands : (s : State L) (h : List Event) → Run leg M s h → Stands leg s (plain h)
+  -- a refused call leaves the roll and its cells as they were
+  pub unchanged : (s lent is : State L) (c : Call) (a : Answer) → Turned leg M s lent c a is → is ≡ s
+  -- what a roll has met makes no difference to what it answers from then on, save by the slots and texts left: the same calls, lent tables of
+  -- the same lengths, are answered alike on two rolls under machines that mean the same
+  pub follows : (s : State L) (s' : State K) (h h' g g' : List Event) → Run leg M s (g ++ h) → Run leg' M' s' (g' ++ h') → Same M M' → plain h ≡ plain h' → map asked g ≡ map asked g' → g ≡ g'
+  -- whatever cells, strips and machines were lent to whichever call, the refusals are those that the slots held and the lengths say
+  pub refusals : (r : Roll) (h : List Event) → Met r h → (slots r ≡ held h) × Due h
   -- the verdict is yes exactly when the held strips, joined in slot order, make a text that the machine means, and the totals are that text's
-  pub verdict : (h : List Event) (b : Bool) → Newest leg M h refusals.verdict (judged b) → Decides b (M (whole (plain h)))
-  pub totals : (h : List Event) (t : Tally) → Newest leg M h refusals.totals (tallied t) → t ≡ tally (whole (plain h))
+  pub verdict : (h : List Event) (b : Bool) → Newest leg M h on.verdict (judged b) → Decides b (M (whole (plain h)))
+  pub totals : (h : List Event) (t : Tally) → Newest leg M h on.totals (tallied t) → t ≡ tally (whole (plain h))
   -- two rolls with equal joined texts, under machines that mean the same texts, give equal verdicts and totals
-  pub verdicts : (h h' : List Event) (b b' : Bool) → Newest leg M h refusals.verdict (judged b) → Newest leg' M' h' refusals.verdict (judged b') → Same M M' → whole (plain h) ≡ whole (plain h') → b ≡ b'
-  pub sums : (h h' : List Event) (t t' : Tally) → Newest leg M h refusals.totals (tallied t) → Newest leg' M' h' refusals.totals (tallied t') → whole (plain h) ≡ whole (plain h') → t ≡ t'
+  pub verdicts : (h h' : List Event) (b b' : Bool) → Newest leg M h on.verdict (judged b) → Newest leg' M' h' on.verdict (judged b') → Same M M' → whole (plain h) ≡ whole (plain h') → b ≡ b'
+  pub sums : (h h' : List Event) (t t' : Tally) → Newest leg M h on.totals (tallied t) → Newest leg' M' h' on.totals (tallied t') → whole (plain h) ≡ whole (plain h') → t ≡ t'
   -- the culprit is the first slot such that no text that follows the strips up to and with it could lead to a yes
-  pub culprit : (h : List Event) (c : Option ℕ) → Newest leg M h refusals.culprit (named c) → FirstLost M (texts (plain h)) c
+  pub culprit : (h : List Event) (c : Option ℕ) → Newest leg M h on.culprit (named c) → FirstLost M (texts (plain h)) c
   -- none is named exactly when some text that follows the whole roll could
-  pub none : (h : List Event) (c : Option ℕ) → Newest leg M h refusals.culprit (named c) → (c ≡ None → Hopeful M (whole (plain h))) × (Hopeful M (whole (plain h)) → c ≡ None)
+  pub none : (h : List Event) (c : Option ℕ) → Newest leg M h on.culprit (named c) → (c ≡ None → Hopeful M (whole (plain h))) × (Hopeful M (whole (plain h)) → c ≡ None)

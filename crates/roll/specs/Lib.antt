@@ -1,4 +1,5 @@
 pub mod Calls
+pub mod Histories
 pub mod Law
 pub mod Lending
 pub mod Plain

@@ -5,7 +5,8 @@
 --   tables n l t  refusal 4: not 2n legs, at place 0, or not 2n tallies, at place 1
 --   room n s l t  the same, and then refusal 9: no slot s among n
 --   refusal       the fault of a call that is lent l legs and t tallies, or none where the call is granted
-use Rattle.std.specs.Prelude.{ℕ, ◌*◌, Bool, true, false, List, length, Some, None, Option, ◌==◌, nat_lt, slice_index_or}
+--   marked        which slots are held after a granted call
+use Rattle.std.specs.Prelude.{ℕ, ◌*◌, Bool, true, false, List, length, replicate, Some, None, Option, ◌==◌, nat_lt, slice_index_or, slice_set}
 use Rattle.fault.specs.declared.Fault.{Fault}
 use Rattle.fault.specs.declared.Layer.TheVariants.{Roll}
 use Rattle.fault.specs.declared.Refusal.{Refusal}
@@ -50,3 +51,11 @@ refusal slots (withdrawal s) l t = first (room (length slots) s l t) (unless (is
 refusal slots verdict l t = tables (length slots) l t
 refusal slots totals l t = tables (length slots) l t
 refusal slots culprit l t = tables (length slots) l t
+
+abbrev pub marked : List Slot → Call → List Slot
+marked slots (opening n) = replicate n Empty
+marked slots (filing s w) = slice_set slots s Held
+marked slots (withdrawal s) = slice_set slots s Empty
+marked slots verdict = slots
+marked slots totals = slots
+marked slots culprit = slots

@@ -1,13 +1,14 @@
 // The calls of a roll.
-ghost use Rattle.std.specs.Prelude.{◌≡◌, ℕ, ◌≤◌, List, length, replicate, Decides};
-ghost use Rattle.folding.specs.Texts.{Bytes};
+ghost use Rattle.std.specs.Prelude.{◌≡◌, ◌≤◌, [], length, replicate};
 ghost use Rattle.std.specs.Result.{result_err};
-ghost use Rattle.roll.specs.Calls.{done, tallied, judged, named};
+ghost use Rattle.roll.specs.Calls.{tallied, judged, named};
 ghost use Rattle.roll.specs.Law.{Law};
 ghost use Rattle.roll.specs.Lending.{with, before, StillLent};
-ghost use Rattle.roll.specs.Refusals.{withdrawal, verdict, totals, culprit, room};
+ghost use Rattle.roll.specs.Refusals.{verdict, totals, culprit, room};
+ghost use Rattle.roll.specs.Runs.{Run};
 ghost use Rattle.roll.specs.Sizes.{allowed as allowed_size};
-ghost use Rattle.roll.specs.Steps.{heard, AsMade, Opens, Files, Does};
+ghost use Rattle.roll.specs.Stands.{state};
+ghost use Rattle.roll.specs.Steps.{heard, AsMade, Opens, Files, Withdraws, Does};
 ghost use Rattle.roll.specs.declared.slot.Slot.TheVariants.{Empty};
 
 use crate::lent::{Lent, LentMut};
@@ -27,19 +28,13 @@ fn allowed(n: usize) -> bool
     matches!(n, 1 | 2 | 4 | 8 | 16 | 32 | 64 | 128)
 }
 
-// Whether the machine means the text of this leg.
-fn judge<M: Judging>(machine: &M, at: &M::Leg) -> bool
-    ensures cases { (w : List ℕ) → Bytes w → at.now ≡ M.Folding.leg machine.now w → Decides result (M.Judging.means machine.now w) }
-{
-    machine.accepts(at)
-}
-
 impl Roll {
     // A roll with no slots, which holds the empty text. `law` is what the product is for: it speaks
     // of every run of a roll under a machine of kind M, and of any two runs, the other under a
     // machine of kind O (which may be the same kind).
     pub fn new<M: Judging, O: Judging>() -> Roll
         ensures made { AsMade result }
+        ensures begins { (m : M) → Run (M.Folding.leg m) (M.Judging.means m) (state result [] []) [] }
         ensures law { (m : M) (o : O) → Law (M.Folding.leg m) (M.Judging.means m) (O.Folding.leg o) (O.Judging.means o) }
     {
         Roll {
@@ -78,16 +73,15 @@ impl Roll {
             return Err(Returned { fault, strip });
         }
         let Strip { leg, tally, fed: _ } = strip;
-        // There is such a slot, so neither is refused.
-        let _ = cells::put(lent.machine, lent.legs, slot, leg);
-        let _ = cells::put(&Tallying, lent.tallies, slot, tally);
+        cells::put(lent.machine, lent.legs, slot, leg).unwrap();
+        cells::put(&Tallying, lent.tallies, slot, tally).unwrap();
         self.slots.as_mut_slice()[slot].hold();
         Ok(tally)
     }
 
     // Empties a held slot.
     pub fn withdraw<M: Judging>(&mut self, lent: &mut LentMut<M>, slot: usize) -> Result<(), Fault>
-        ensures does { Does (M.Folding.leg lent.old.machine.now) (M.Judging.means lent.old.machine.now) (with self.old lent.old) (withdrawal slot) (heard (λ _. done) result) (with self.new lent.new) }
+        ensures withdraws { Withdraws (M.Folding.leg lent.old.machine.now) (M.Judging.means lent.old.machine.now) (with self.old lent.old) slot result (with self.new lent.new) }
         ensures lent { StillLent lent.old lent.new }
     {
         self.slot_at(&lent.shared(), slot)?;
@@ -96,9 +90,8 @@ impl Roll {
             return Err(Layer::Roll.fault(Refusal::SlotEmpty, slot));
         }
         let empty = lent.machine.empty();
-        // Nor here.
-        let _ = cells::put(lent.machine, lent.legs, slot, empty);
-        let _ = cells::put(&Tallying, lent.tallies, slot, Tallying.empty());
+        cells::put(lent.machine, lent.legs, slot, empty).unwrap();
+        cells::put(&Tallying, lent.tallies, slot, Tallying.empty()).unwrap();
         self.slots.as_mut_slice()[slot].clear();
         Ok(())
     }
@@ -108,7 +101,7 @@ impl Roll {
         ensures does { Does (M.Folding.leg lent.now.machine.now) (M.Judging.means lent.now.machine.now) (before self.now lent.now) verdict (heard judged result) (before self.now lent.now) }
     {
         lent.fit(self.slots.len())?;
-        Ok(judge(lent.machine, &cells::whole(lent.machine, lent.legs)))
+        Ok(lent.machine.accepts(&cells::whole(lent.machine, lent.legs)))
     }
 
     // The tally of the joined text.

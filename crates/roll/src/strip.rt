@@ -1,5 +1,6 @@
 // Open strips.
 ghost use Rattle.std.specs.Prelude.{◌≡◌, ◌≤◌};
+ghost use Rattle.roll.specs.Sizes.{longest};
 
 use fault::Fault;
 use folding::tally::Tally;
@@ -11,7 +12,7 @@ pub struct Strip<L> {
     pub(crate) leg: L,
     pub(crate) tally: Tally,
     pub(crate) fed: usize,
-    ghost short: { fed ≤ 1000000 },
+    ghost short: { fed ≤ longest },
 }
 
 // What a refused filing answers: the fault, and the strip as it was.

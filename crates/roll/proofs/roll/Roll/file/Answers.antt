@@ -3,8 +3,8 @@ use Rattle.roll.specs.Calls.{tallied}
 use Rattle.roll.specs.Plain.{texts}
 use Rattle.roll.specs.Refusals.{room}
 use Rattle.roll.specs.Stands.{slots}
-use Rattle.roll.proofs.Granting.{room_none}
-use Rattle.roll.proofs.Standing.{length_texts, marked, stands_set, grants}
+use Rattle.roll.proofs.Granting.{room_none, room_half}
+use Rattle.roll.proofs.Standing.{length_texts, mark_written, stands_set, grants}
 use Rattle.roll.proofs.roll.Roll.file.Goals as goal
 
 pub returns-clause-files : goal.returns-clause-files
@@ -14,13 +14,22 @@ returns-clause-files g c =
     let granted : room (length (slots self)) slot (length c.args.lent.now.legs.now) (length c.args.lent.now.tallies.now) ≡ None =
     sym (c.in_default.ensures.value ∙ (λ i. room (length (slots self)) slot (length (c.shared.ensures.legs i)) (length (c.shared.ensures.tallies i)))) in
     let in' : slot < length (slots self) = room_none _ slot _ _ granted in
+    let half = room_half _ slot _ _ granted in
+    let marks = mark_written _ _ slot _ _ c.as_mut_slice.ensures.value c.hold.ensures.after in
     record {
-      refuses = grants _ refl granted;
+      always = grants _ refl granted marks;
       back = tt;
+      answer = λ free. refl;
+      touches = λ free. record {
+        legs = c.put.ensures.others;
+        tallies = c.put-2.ensures.others;
+        own_leg = λ d. c.put.ensures.own d half.0;
+        own_tally = λ d. c.put-2.ensures.own d half.1;
+      };
       keeps = λ w h p stands free.
           let lt : slot < length (texts p) = subst (λ n. slot < n) (sym (length_texts stands)) in' in (
             ap tallied h.tallies,
-            stands_set _ _ _ p stands slot (Some w) h.bytes (marked _ _ slot _ _ c.as_mut_slice.ensures.value c.hold.ensures.after)
+            stands_set _ _ _ p stands slot (Some w) h.bytes marks
                 (c.put.ensures.cells (texts p) w stands.bytes h.bytes lt stands.legs h.legs)
                 (c.put-2.ensures.cells (texts p) w stands.bytes h.bytes lt stands.tallies h.tallies),
           );

@@ -10,6 +10,6 @@ returns-clause-opens g c =
     c.in_ok-fit.ensures.value ∙ (λ i. tables c.args.n (length (c.shared.ensures.legs i)) (length (c.shared.ensures.tallies i))) in
     let fits = tables_none c.args.n _ _ (sym granted) in
     record {
-      refuses = grants _ refl (opening_none c.args.n _ _ (sym c.if-not-allowed.ensures.value) granted);
+      always = grants _ refl (opening_none c.args.n _ _ (sym c.if-not-allowed.ensures.value) granted) c.empty_slots-slots.ensures.value;
       keeps = λ granted. stands_empty _ _ c.args.n c.empty_slots-slots.ensures.value (c.clear.ensures.cells.1 c.args.n fits.0) (c.clear-2.ensures.cells.1 c.args.n fits.1);
     }

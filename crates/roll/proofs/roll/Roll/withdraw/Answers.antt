@@ -2,24 +2,34 @@ use Rattle.std.proofs.Common.{◌≡◌, ◌<◌, length, None, sym, refl, ◌�
 use Rattle.roll.specs.Plain.{texts}
 use Rattle.roll.specs.Refusals.{room}
 use Rattle.roll.specs.Stands.{slots}
-use Rattle.roll.proofs.Granting.{room_none, withdrawal_at}
-use Rattle.roll.proofs.Standing.{length_texts, marked, stands_set, grants}
+use Rattle.roll.proofs.Granting.{room_none, room_half, withdrawal_at}
+use Rattle.roll.proofs.Standing.{length_texts, mark_written, stands_set, grants}
 use Rattle.roll.proofs.roll.Roll.withdraw.Goals as goal
 
-pub returns-clause-does : goal.returns-clause-does
-returns-clause-does g c =
+pub returns-clause-withdraws : goal.returns-clause-withdraws
+returns-clause-withdraws g c =
     let self = c.args.self.now in
     let slot = c.args.slot in
     let granted : None ≡ room (length (slots self)) slot (length c.args.lent.now.legs.now) (length c.args.lent.now.tallies.now) =
     c.in_ok-slot_at.ensures.value ∙ (λ i. room (length (slots self)) slot (length (c.shared.ensures.legs i)) (length (c.shared.ensures.tallies i))) in
     let in' : slot < length (slots self) = room_none _ slot _ _ (sym granted) in
+    let half = room_half _ slot _ _ (sym granted) in
+    let marks = mark_written _ _ slot _ _ c.as_mut_slice.ensures.value c.clear.ensures.after in
     record {
-      refuses = grants _ refl (withdrawal_at self slot _ _ _ _ granted c.deref.ensures.0 c.if-not-is_held.ensures.value);
-      keeps = λ p stands free.
-          let lt : slot < length (texts p) = subst (λ n. slot < n) (sym (length_texts stands)) in' in (
-            refl,
-            stands_set _ _ _ p stands slot None tt (marked _ _ slot _ _ c.as_mut_slice.ensures.value c.clear.ensures.after)
-                (c.put.ensures.cells (texts p) _ stands.bytes tt lt stands.legs c.empty-empty.ensures.value)
-                (c.put-2.ensures.cells (texts p) _ stands.bytes tt lt stands.tallies c.empty.ensures.value),
-          );
+      does = record {
+        always = grants _ refl (withdrawal_at self slot _ _ _ _ granted c.deref.ensures.0 c.if-not-is_held.ensures.value) marks;
+        keeps = λ p stands free.
+            let lt : slot < length (texts p) = subst (λ n. slot < n) (sym (length_texts stands)) in' in (
+              refl,
+              stands_set _ _ _ p stands slot None tt marks
+                  (c.put.ensures.cells (texts p) _ stands.bytes tt lt stands.legs c.empty-empty.ensures.value)
+                  (c.put-2.ensures.cells (texts p) _ stands.bytes tt lt stands.tallies c.empty.ensures.value),
+            );
+      };
+      touches = λ free. record {
+        legs = c.put.ensures.others;
+        tallies = c.put-2.ensures.others;
+        own_leg = λ d. c.put.ensures.own d half.0 ∙ c.empty-empty.ensures.value;
+        own_tally = λ d. c.put-2.ensures.own d half.1 ∙ c.empty.ensures.value;
+      };
     }
