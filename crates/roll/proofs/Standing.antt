@@ -1,10 +1,11 @@
 -- What a state stands for after a call. Assumes nothing.
-use Rattle.std.proofs.Common.{◌≡◌, ℕ, zero, suc, ◌*◌, ◌^◌, ◌≤◌, true, List, [], ◌∷◌, ◌++◌, map, length, take, set, replicate, None, Option, unwrap_or, sym, refl, ap, ◌∙◌, subst, ⊎_elim, arith, append-nil, length-set, drop_of_length-le}
+use Rattle.std.proofs.Common.{◌≡◌, ℕ, zero, suc, ◌*◌, ◌^◌, ◌≤◌, true, List, [], ◌∷◌, ◌++◌, map, length, take, set, replicate, Some, None, Option, unwrap_or, sym, refl, ap, ◌∙◌, subst, ⊎_elim, arith, append-nil, length-set, drop_of_length-le}
 use lib.ListN.{length-map}
 use Rattle.std.specs.List.{refill}
 use Rattle.std.proofs.ByRecursion.{All-set}
 use Rattle.std.proofs.lemmas.List.{map-set, nil_from_length, take_all}
 use Rattle.std.proofs.lemmas.Bool.{eq-eqb}
+use Rattle.fault.specs.declared.Fault.{Fault}
 use Rattle.fault.specs.declared.Refusal.TheVariants.{TableLength}
 use Rattle.folding.specs.Cells.{cells}
 use Rattle.folding.specs.Tallies.{tally}
@@ -17,7 +18,7 @@ use Rattle.roll.specs.Refusals.{Call, fault, unless, first, tables, refusal, mar
 use Rattle.roll.specs.Stands.{State, slots, Stands}
 use Rattle.roll.specs.Calls.{Answer}
 use Rattle.roll.specs.Steps.{fault_of, refusal_at, Always}
-use Rattle.roll.proofs.Granting.{not_refused}
+use Rattle.roll.proofs.Granting.{not_refused, refused_not_none}
 use Rattle.roll.specs.declared.slot.Slot.TheVariants.{Empty}
 use Rattle.roll.proofs.Sizing.{sized_cases}
 
@@ -105,5 +106,12 @@ grants {was = was} {is = is} a free which marks = record {
 pub asks : {L : Type 0} (s : State L) (c : Call) (a : Answer) → refusal_at s c ≡ fault_of a → slots s.roll ≡ marked (slots s.roll) c → Always s c a s
 asks s c a which marks = record {
   roll = record { which = which; same = λ f e. refl; marks = λ granted. marks };
+  tables = λ f e. (refl, refl);
+}
+
+-- a refused call leaves everything as it was
+pub refuses : {L : Type 0} (s : State L) (c : Call) (a : Answer) (f : Fault) → fault_of a ≡ Some f → refusal_at s c ≡ Some f → Always s c a s
+refuses s c a f says which = record {
+  roll = record { which = which ∙ sym says; same = λ f e. refl; marks = λ granted. absurd (refused_not_none _ f which granted) };
   tables = λ f e. (refl, refl);
 }

@@ -1,10 +1,11 @@
-use Rattle.std.proofs.Common.{◌≡◌, ◌<◌, length, Some, None, sym, refl, ap, ◌∙◌, subst}
+use Rattle.std.proofs.Common.{◌≡◌, ◌<◌, [], length, Some, None, sym, refl, ap, ◌∙◌, subst}
+use Rattle.std.specs.Result.{result_err}
 use Rattle.roll.specs.Calls.{tallied}
 use Rattle.roll.specs.Plain.{texts}
-use Rattle.roll.specs.Refusals.{room}
+use Rattle.roll.specs.Refusals.{filing, room}
 use Rattle.roll.specs.Stands.{slots}
-use Rattle.roll.proofs.Granting.{room_none, room_half}
-use Rattle.roll.proofs.Standing.{length_texts, mark_written, stands_set, grants}
+use Rattle.roll.proofs.Granting.{room_none, room_half, refused_not_none}
+use Rattle.roll.proofs.Standing.{length_texts, mark_written, stands_set, grants, refuses}
 use Rattle.roll.proofs.roll.Roll.file.Goals as goal
 
 pub returns-clause-files : goal.returns-clause-files
@@ -33,4 +34,18 @@ returns-clause-files g c =
                 (c.put.ensures.cells (texts p) w stands.bytes h.bytes lt stands.legs h.legs)
                 (c.put-2.ensures.cells (texts p) w stands.bytes h.bytes lt stands.tallies h.tallies),
           );
+    }
+
+pub returns-in-Err-clause-files : goal.returns-in-Err-clause-files
+returns-in-Err-clause-files g c =
+    let slot = c.args.slot in
+    let self = c.args.self.now in
+    let refused : room (length (slots self)) slot (length c.args.lent.now.legs.now) (length c.args.lent.now.tallies.now) ≡ Some c.in-Err.fault =
+    sym (sym (ap result_err c.in-Err.is) ∙ c.slot_at.ensures.value ∙ (λ i. room (length (slots self)) slot (length (c.shared.ensures.legs i)) (length (c.shared.ensures.tallies i)))) in
+    record {
+      always = refuses _ (filing slot []) _ c.in-Err.fault refl refused;
+      back = refl;
+      answer = λ free. absurd (refused_not_none _ _ refused free);
+      touches = λ free. absurd (refused_not_none _ _ refused free);
+      keeps = λ w h p stands free. absurd (refused_not_none _ _ refused free);
     }
