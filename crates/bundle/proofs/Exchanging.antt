@@ -1,17 +1,16 @@
 -- A report under one set of texts is a report under another with the same texts. Assumes nothing.
-use Rattle.std.proofs.Common.{◌≡◌, ℕ, zero, suc, ◌+◌, List, [], ◌∷◌, ◌++◌, take, set, replicate, Some, None, Ok, Err, Option, Result, unwrap_or, sym, refl, subst, arith}
-use Rattle.std.proofs.ByRecursion.{All-take, All-set}
+use Rattle.std.proofs.Common.{◌≡◌, ℕ, zero, suc, List, [], ◌∷◌, set, replicate, Some, None, Ok, Err, Option, Result, unwrap_or, sym, refl, subst, arith}
+use Rattle.std.proofs.ByRecursion.{All-set}
 use Rattle.std.proofs.lemmas.List.{map-set}
 use Rattle.std.proofs.lemmas.Bool.Decides.{Decides-like}
 use Rattle.std.specs.List.{AllByRecursion}
 use Rattle.fault.specs.declared.Fault.{Fault}
-use Rattle.folding.specs.Losing.{upto, FirstLost}
-use Rattle.folding.specs.Sets.{Hopeful, Lost}
 use Rattle.folding.specs.Texts.{Bytes, AllBytes, together}
-use Rattle.folding.proofs.Texts.{bytes_append, bytes_together}
+use Rattle.folding.proofs.Texts.{bytes_together}
 use Rattle.roll.specs.Law.{Same}
 use Rattle.roll.specs.Plain.{Plain, texts, marks}
 use Rattle.roll.specs.Refusals.{filing, refusal}
+use Rattle.roll.proofs.Exchanging.{first_same}
 use Rattle.bundle.specs.Layout.{Piece, OfBytes}
 use Rattle.bundle.specs.Outcome.{unless, filed, opened, Reports, Reported}
 use Rattle.bundle.specs.declared.report.Report.{Report}
@@ -38,26 +37,13 @@ opened_bytes zero = tt
 opened_bytes (suc n) = (tt, opened_bytes n)
 
 module _ (M M' : List ℕ → Type 0) (same : Same M M') where
-  hopeful_same : (w : List ℕ) → Bytes w → Hopeful M w → Hopeful M' w
-  hopeful_same w bytes hope = (hope.0, hope.1, (same (w ++ hope.0) (bytes_append w hope.0 bytes hope.1)).0 hope.2)
-
-  lost_same : (w : List ℕ) → Bytes w → Lost M w → Lost M' w
-  lost_same w bytes lost v more in' = lost v more ((same (w ++ v) (bytes_append w v bytes more)).1 in')
-
-  upto_bytes : (ts : List (List ℕ)) (s : ℕ) → AllBytes ts → Bytes (upto ts s)
-  upto_bytes ts s bytes = bytes_together (take (s + 1) ts) (All-take Bytes (s + 1) ts bytes)
-
-  first_same : (ts : List (List ℕ)) → AllBytes ts → (c : Option ℕ) → FirstLost M ts c → FirstLost M' ts c
-  first_same ts bytes None none = λ s lt. hopeful_same (upto ts s) (upto_bytes ts s bytes) (none s lt)
-  first_same ts bytes (Some c) first = (first.0, lost_same (upto ts c) (upto_bytes ts c bytes) first.1, λ s lt. hopeful_same (upto ts s) (upto_bytes ts s bytes) (first.2 s lt))
-
   reports_same : (p : Plain) (r : Report) → AllBytes (texts p) → Reports M p r → Reports M' p r
   reports_same p r bytes report =
       let sets = same (together (texts p)) (bytes_together (texts p) bytes) in
       record {
         verdict = Decides-like r.verdict sets.0 sets.1 report.verdict;
         totals = report.totals;
-        culprit = first_same (texts p) bytes r.culprit report.culprit;
+        culprit = first_same M M' same (texts p) bytes r.culprit report.culprit;
       }
 
   reported_by : (o : Result Plain Fault) (r : Result Report Fault) → ((q : Plain) → o ≡ Ok q → AllBytes (texts q)) → Reported M o r → Reported M' o r

@@ -5,4 +5,6 @@ pub mod Exchanging
 pub mod Filings
 pub mod Laws
 pub mod Parted
+pub mod Reporting
+pub mod Running
 pub mod Words

@@ -1,8 +1,8 @@
 pub mod Checks
 pub mod Cuts
 pub mod Enough
-pub mod Filing
 pub mod Handed
+pub mod History
 pub mod Laws
 pub mod Layout
 pub mod Lines

@@ -2,6 +2,7 @@
 --
 --   opened       the plain roll of 128 empty slots
 --   filed p ss   the plain roll once the strips are filed in their order, or the fault of the first that is refused
+--   begun l t ss the same from the opening on, which is lent l legs and t tallies
 --   Reports M p r    r is the report of a roll that holds the texts of p, where M is the set
 --   Reported M o r   the same, or the fault that ended the filing
 use Rattle.std.specs.Prelude.{◌≡◌, ℕ, List, [], ◌∷◌, replicate, Some, None, Ok, Err, Decides, Option, Result}
@@ -10,7 +11,7 @@ use Rattle.folding.specs.Losing.{FirstLost}
 use Rattle.folding.specs.Tallies.{tally}
 use Rattle.roll.specs.Calls.{after}
 use Rattle.roll.specs.Plain.{Plain, texts, whole, marks}
-use Rattle.roll.specs.Refusals.{filing, refusal}
+use Rattle.roll.specs.Refusals.{opening, filing, refusal}
 use Rattle.bundle.specs.Layout.{Piece}
 use Rattle.bundle.specs.declared.report.Report.{Report}
 
@@ -25,6 +26,9 @@ unless (Some f) r = Err f
 abbrev pub filed : Plain → List Piece → Result Plain Fault
 filed p [] = Ok p
 filed p (s ∷ ss) = unless (refusal (marks p) (filing s.slot s.text) 256 256) (filed (after p (filing s.slot s.text)) ss)
+
+abbrev pub begun : ℕ → ℕ → List Piece → Result Plain Fault
+begun l t ss = unless (refusal [] (opening 128) l t) (filed opened ss)
 
 pub record Reports (M : List ℕ → Type 0) (p : Plain) (r : Report) : Type 0 where
   pub verdict : Decides r.verdict (M (whole p))

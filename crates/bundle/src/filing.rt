@@ -1,11 +1,9 @@
 // Files the strips of a bundle into a roll of 128 slots, and puts the questions to it.
-ghost use Rattle.std.specs.Prelude.{◌≡◌, [], ◌∷◌, length};
+ghost use Rattle.std.specs.Prelude.{length};
 ghost use Rattle.roll.specs.Lending.{with, StillLent};
-ghost use Rattle.roll.specs.Plain.{Plain};
-ghost use Rattle.roll.specs.Stands.{Stands};
-ghost use Rattle.bundle.specs.Filing.{Filed};
 ghost use Rattle.bundle.specs.Handed.{piece, left, Short};
-ghost use Rattle.bundle.specs.Outcome.{opened, filed, Reported};
+ghost use Rattle.bundle.specs.History.{FiledOne, FiledAll, Ran};
+ghost use Rattle.bundle.specs.Outcome.{begun, Reported};
 
 use crate::report::Report;
 use crate::walk::{Strip, Strips};
@@ -20,7 +18,7 @@ const SLOTS: usize = 128;
 // The roll and what is lent with its calls stay two values: a roll outlives what is lent.
 fn file_one<M: Judging>(roll: &mut Roll, lent: &mut LentMut<M>, strip: Strip) -> Result<(), Fault>
     requires short { Short strip }
-    ensures filed { (p : Plain) → length p ≡ 128 → Stands (M.Folding.leg lent.old.machine.now) (with roll.old lent.old) p → Filed (M.Folding.leg lent.old.machine.now) (filed p (piece strip.entry ∷ [])) result (with roll.new lent.new) }
+    ensures filed { FiledOne (M.Folding.leg lent.old.machine.now) (M.Judging.means lent.old.machine.now) (with roll.old lent.old) (piece strip.entry) result (with roll.new lent.new) }
     ensures lent { StillLent lent.old lent.new }
 {
     let open = feeding::strip_of(lent.machine, strip.text)?;
@@ -31,7 +29,7 @@ fn file_one<M: Judging>(roll: &mut Roll, lent: &mut LentMut<M>, strip: Strip) ->
 // Files the strips in their order, a later one for a slot in place of an earlier one. The first
 // refusal ends it.
 fn file_all<M: Judging>(roll: &mut Roll, lent: &mut LentMut<M>, strips: Strips) -> Result<(), Fault>
-    ensures filed { (p : Plain) → length p ≡ 128 → Stands (M.Folding.leg lent.old.machine.now) (with roll.old lent.old) p → Filed (M.Folding.leg lent.old.machine.now) (filed p (left strips.entry)) result (with roll.new lent.new) }
+    ensures filed { FiledAll (M.Folding.leg lent.old.machine.now) (M.Judging.means lent.old.machine.now) (with roll.old lent.old) (left strips.entry) result (with roll.new lent.new) }
     ensures lent { StillLent lent.old lent.new }
 {
     for strip in strips {
@@ -40,11 +38,12 @@ fn file_all<M: Judging>(roll: &mut Roll, lent: &mut LentMut<M>, strips: Strips) 
     Ok(())
 }
 
-// What the strips come to under a machine, with cells for 128 slots.
-pub(crate) fn report<M: Judging>(lent: &mut LentMut<M>, strips: Strips) -> Result<Report, Fault>
-    requires legs { length lent.old.legs.now ≡ 256 }
-    requires tallies { length lent.old.tallies.now ≡ 256 }
-    ensures reported { Reported (M.Judging.means lent.old.machine.now) (filed opened (left strips.entry)) result }
+// What the strips come to under a machine, with cells for 128 slots: the first refusal ends it. Its
+// calls are a run, of which the law of rolls speaks.
+pub fn report<M: Judging>(lent: &mut LentMut<M>, strips: Strips) -> Result<Report, Fault>
+    ensures reported { Reported (M.Judging.means lent.old.machine.now) (begun (length lent.old.legs.now) (length lent.old.tallies.now) (left strips.entry)) result }
+    ensures ran { Ran (M.Folding.leg lent.old.machine.now) (M.Judging.means lent.old.machine.now) lent.old.legs.now lent.old.tallies.now (left strips.entry) lent.new.legs.now lent.new.tallies.now result }
+    ensures lent { StillLent lent.old lent.new }
 {
     let mut roll = Roll::new::<M, M>();
     roll.open(lent, SLOTS)?;

@@ -5,7 +5,7 @@ mod bytes;
 pub mod check;
 pub mod decode;
 pub mod enough;
-mod filing;
+pub mod filing;
 pub mod report;
 #[cfg(test)]
 mod tests;

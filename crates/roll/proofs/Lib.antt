@@ -2,6 +2,7 @@ pub mod Exchanging
 pub mod Following
 pub mod Granting
 pub mod Lawful
+pub mod Lending
 pub mod Meeting
 pub mod Sizing
 pub mod Standing

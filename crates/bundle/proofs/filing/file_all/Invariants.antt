@@ -1,5 +1,6 @@
-use Rattle.roll.specs.Lending.{StillLent}
-use Rattle.roll.specs.Stands.{state}
+use Rattle.std.proofs.Common.{List}
+use Rattle.roll.specs.Lending.{StillLent, with}
+use Rattle.roll.specs.Runs.{Event, Run}
 use Rattle.bundle.proofs.Filings.{Along}
 use Rattle.bundle.specs.Handed.{left}
 use Rattle.bundle.proofs.filing.file_all.Given as goal
@@ -7,5 +8,7 @@ use Rattle.bundle.proofs.filing.file_all.Given as goal
 abbrev pub invariant-loop-strip : goal.invariant-loop-strip
 invariant-loop-strip g l =
     let was = l.initial.lent in
-    Along (g.M.Folding.leg was.machine.now) (state l.initial.roll was.legs.now was.tallies.now) (left l.fn.strips) (state l.roll l.lent.legs.now l.lent.tallies.now) (left l.strip-iterator)
+    let leg = g.M.Folding.leg was.machine.now in
+    let means = g.M.Judging.means was.machine.now in
+    ((h : List Event) → Run leg means (with l.initial.roll was) h → Along leg means (with l.initial.roll was) (left l.fn.strips) (with l.roll l.lent) (left l.strip-iterator) h)
     × StillLent was l.lent
