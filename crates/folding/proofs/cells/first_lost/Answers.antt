@@ -1,5 +1,6 @@
 use Rattle.std.proofs.Common.{◌≡◌, ℕ, ◌+◌, ◌-◌, ◌/◌, List, length, map, ap, ◌∙◌, arith, inr}
 use lib.ListN.{length-map}
+use Rattle.std.specs.Bool.{then_some}
 use Rattle.folding.specs.Texts.{AllBytes}
 use Rattle.folding.proofs.Gathering.{bytes_upto}
 use Rattle.folding.proofs.Halving.{front, folded, halved}
@@ -49,6 +50,7 @@ returns g c = record {
       let few = c.loop-to-test.false in
       let h = c.loop-to.invariant.2 texts bytes are in
       let all = folded _ _ texts c.loop-to.from c.loop-to.to _ _ bytes are c.loop-to.invariant.0 h.leg_so_far c.fold-all.ensures.folds in
-      rw c.then_some.ensures
+      let answer : c.then_some.result ≡ then_some c.lost-2.result c.loop-to.from = c.then_some.ensures in
+      rw answer
       (halved _ _ texts c.loop-to.from c.loop-to.to _ _ bytes h c.loop-to.invariant.0 (omega arith) (omega arith) (c.lost-2.ensures.cases _ (bytes_upto texts _ bytes) all));
 }

@@ -1,4 +1,4 @@
-use Rattle.std.proofs.Common.{◌++◌, length, sym, ap, ◌∙◌, append-nil, arith}
+use Rattle.std.proofs.Common.{◌<◌, ◌++◌, length, sym, ap, ◌∙◌, append-nil, arith}
 use lib.ListN.{length-map}
 use Rattle.std.proofs.lemmas.List.{take_all}
 use Rattle.folding.specs.Texts.{together}
@@ -10,7 +10,8 @@ loop-leg-init g c w ts first bytes is are = is ∙ sym (ap (g.F.Folding.leg c.ar
 
 pub loop-leg-preserved : goal.loop-leg-preserved
 loop-leg-preserved g c w ts first bytes is are =
-    fold_more (g.F.Folding.leg c.args.folding.now) c.args.legs.now w ts c.loop-leg.leg-index c.loop-leg.all c.leg-item.result c.join-all.result first bytes are c.loop-leg-test.true (c.loop-leg.invariant w ts first bytes is are) c.leg-item.is c.join-all.ensures.joins
+    let more : c.loop-leg.leg-index < length c.args.legs.now = c.loop-leg-test.true in
+    fold_more (g.F.Folding.leg c.args.folding.now) c.args.legs.now w ts c.loop-leg.leg-index c.loop-leg.all c.leg-item.result c.join-all.result first bytes are more (c.loop-leg.invariant w ts first bytes is are) c.leg-item.is c.join-all.ensures.joins
 
 pub returns : goal.returns
 returns g c =

@@ -15,7 +15,9 @@ returns-then-slot-n-clause-cells g c slots rest w bytes short byte lt was one =
 pub returns-clause-cells : goal.returns-clause-cells
 returns-clause-cells g c =
     let lt = c.if-slot-n.false in
-    put_cells (g.F.Folding.leg c.args.folding.now) _ c.args.slot _ _ (c.climb.auto.cells ∙ length-set _ _ _) c.climb.ensures.others (omega arith) c.climb.ensures.joined
+    put_cells (g.F.Folding.leg c.args.folding.now) _ c.args.slot _ _ _ (omega arith) (omega arith) _ (c.climb.auto.cells ∙ length-set _ _ _) c.climb.ensures.others (omega arith) c.climb.ensures.joined
 
 pub returns-clause-others : goal.returns-clause-others
-returns-clause-others g c = put_spared (g.F.Folding.leg c.args.folding.now) _ _ _ _ c.climb.ensures.others (let lt = c.if-slot-n.false in omega arith)
+returns-clause-others g c =
+    let lt = c.if-slot-n.false in
+    put_spared (g.F.Folding.leg c.args.folding.now) _ c.args.slot _ _ _ (omega arith) (omega arith) _ c.climb.ensures.others (omega arith)
