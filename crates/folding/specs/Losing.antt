@@ -1,4 +1,4 @@
--- The first slot at whose end the text so far is lost. Assumes nothing.
+-- Which slot loses the text: after it, and after no slot before it, the text is lost. Assumes nothing.
 --
 --   upto slots s         the texts of the slots up to and with s, joined
 --   FirstLost M slots r  r is that slot, or none where the text can still be brought into M after every slot

@@ -1,7 +1,7 @@
 -- Sets of texts, and the texts that can or cannot still be brought into one. Assumes nothing.
 --
---   Hopeful M w  some text that follows w, the empty one included, brings it into M
---   Lost M w     no such text does
+--   Hopeful M w  w, with some text after it or with none, is in M
+--   Lost M w     w is not in M, whatever text comes after it
 use Rattle.std.specs.Prelude.{ℕ, List, ◌++◌}
 use Rattle.folding.specs.Texts.{Bytes}
 

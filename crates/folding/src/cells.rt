@@ -5,8 +5,8 @@ ghost use Rattle.std.specs.Prelude.{◌≡◌, ℕ, ◌+◌, ◌*◌, ◌/◌, �
 ghost use Rattle.fault.specs.declared.Layer.TheVariants.{Roll};
 ghost use Rattle.fault.specs.declared.Refusal.TheVariants.{NoSuchSlot};
 ghost use Rattle.folding.specs.Cells.{under, Tree, cells as cells_of, Above};
-ghost use Rattle.folding.specs.Keeping.{half, slots as slots_of, Clears, Puts, Spares, Gathers, Ready};
-ghost use Rattle.folding.specs.Legs.{Associative};
+ghost use Rattle.folding.specs.Keeping.{half, slots as slots_of, Clears, Puts, Spares, Gathers, Ready, Slotted};
+ghost use Rattle.folding.specs.Legs.{Folds, Associative};
 ghost use Rattle.folding.specs.Losing.{FirstLost};
 ghost use Rattle.folding.specs.Texts.{AllBytes};
 
@@ -47,7 +47,7 @@ pub fn put<F: Folding>(
 // Joins again each cell above `from`, the lowest first.
 fn climb<F: Folding>(folding: &F, cells: &mut [F::Leg], from: usize)
     requires within { from < 2 * half cells.old }
-    ensures joined { (slots : List (List ℕ)) → AllBytes slots → length cells.old ≡ 2 * length slots → Ready (F.Folding.leg folding.now) slots (from / 2) cells.old → cells.new ≡ cells_of (F.Folding.leg folding.now) slots }
+    ensures joined { (slots : List (List ℕ)) → AllBytes slots → half cells.old ≡ length slots → Ready (F.Folding.leg folding.now) slots (from / 2) cells.old → Ready (F.Folding.leg folding.now) slots 0 cells.new }
     ensures others { (k : ℕ) (d : F.Leg) → (Above k (from / 2) → ⊥) → slice_index_or cells.new k d ≡ slice_index_or cells.old k d }
 {
     let mut i = from / 2;
@@ -68,38 +68,48 @@ fn leaves<L>(cells: &[L]) -> &[L]
     &cells[n..2 * n]
 }
 
-// The leg of the texts joined in slot order, by a fold from the left over the slots. The tree
-// groups the same joins otherwise: that both come to one leg is what `associative` says.
-pub fn fold<F: Folding>(folding: &F, cells: &[F::Leg]) -> F::Leg
-    ensures value { Gathers (F.Folding.leg folding.now) cells.now result }
+// From the leg of a text and those of the texts after it, the leg of all of them joined, by a fold
+// from the left. The tree groups the same joins otherwise: that both come to one leg is what
+// `associative` says.
+pub fn fold<F: Folding>(folding: &F, from: &F::Leg, legs: &[F::Leg]) -> F::Leg
+    ensures folds { Folds (F.Folding.leg folding.now) from.now legs.now result }
     ensures associative { Associative (F.Folding.leg folding.now) }
 {
-    let mut all = folding.empty();
-    for leg in leaves(cells) {
+    let mut all = *from;
+    for leg in legs {
         all = folding.join(&all, leg);
     }
     all
 }
 
-// The same leg by one look, at the cell that stands above all others.
+// The leg of the texts joined in slot order, by one look, at the cell that stands above all others.
 pub fn whole<F: Folding>(folding: &F, cells: &[F::Leg]) -> F::Leg
+    ensures cell { result ≡ slice_index_or cells.now 1 (F.Folding.leg folding.now []) }
     ensures value { (k : ℕ) → half cells.now ≡ 2 ^ k → Gathers (F.Folding.leg folding.now) cells.now result }
     ensures none { length cells.now ≤ 1 → result ≡ F.Folding.leg folding.now [] }
 {
     cells.get(1).copied().unwrap_or_else(|| folding.empty())
 }
 
-// The first slot at whose end the text so far is lost. It is no use of `fold`: it asks at each slot,
-// and stops there.
+// The first slot at whose end the text so far is lost. A lost text stays lost whatever follows, so
+// the slot is found by halving: each leg is folded once, and `lost` asked once to a halving.
 pub fn first_lost<M: Judging>(machine: &M, cells: &[M::Leg]) -> Option<usize>
-    ensures value { (slots : List (List ℕ)) → AllBytes slots → cells.now ≡ cells_of (M.Folding.leg machine.now) slots → FirstLost (M.Judging.means machine.now) slots result }
+    ensures value { (slots : List (List ℕ)) → AllBytes slots → Slotted (M.Folding.leg machine.now) cells.now slots → FirstLost (M.Judging.means machine.now) slots result }
 {
+    let legs = leaves(cells);
     let mut so_far = machine.empty();
-    for (slot, leg) in leaves(cells).iter().enumerate() {
-        so_far = machine.join(&so_far, leg);
-        if machine.lost(&so_far) {
-            return Some(slot);
+    let mut from = 0;
+    let mut to = legs.len();
+    while to - from > 1 {
+        let middle = from + (to - from) / 2;
+        let next = fold(machine, &so_far, &legs[from..middle]);
+        if machine.lost(&next) {
+            to = middle;
+        } else {
+            so_far = next;
+            from = middle;
         }
     }
-    None
+    let all = fold(machine, &so_far, &legs[from..to]);
+    machine.lost(&all).then_some(from)
 }

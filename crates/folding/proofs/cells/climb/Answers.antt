@@ -9,4 +9,4 @@ loop-i-preserved g c =
 pub returns-clause-joined : goal.returns-clause-joined
 returns-clause-joined g c slots bytes wide ready =
     let end : c.loop-i.i ≡ 0 = let left = c.loop-i-test.false in omega arith in
-    risen _ _ _ _ _ c.loop-i.invariant end c.loop-i.auto.cells slots bytes wide ready
+    risen _ _ _ _ _ c.loop-i.invariant end slots bytes wide ready
