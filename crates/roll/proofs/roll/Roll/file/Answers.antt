@@ -1,6 +1,7 @@
 use Rattle.std.proofs.Common.{◌≡◌, ◌<◌, [], length, Some, None, sym, refl, ap, ◌∙◌, subst}
 use Rattle.std.specs.Result.{result_err}
 use Rattle.roll.specs.Calls.{tallied}
+use Rattle.folding.proofs.Putting.{puts_even}
 use Rattle.roll.specs.Plain.{texts}
 use Rattle.roll.specs.Refusals.{filing, room}
 use Rattle.roll.specs.Stands.{slots}
@@ -31,8 +32,8 @@ returns-clause-files g c =
           let lt : slot < length (texts p) = subst (λ n. slot < n) (sym (length_texts stands)) in' in (
             ap tallied h.tallies,
             stands_set _ _ _ p stands slot (Some w) h.bytes marks
-                (c.put.ensures.cells (texts p) w stands.bytes h.bytes lt stands.legs h.legs)
-                (c.put-2.ensures.cells (texts p) w stands.bytes h.bytes lt stands.tallies h.tallies),
+                (puts_even _ _ _ _ _ c.put.ensures.cells (texts p) w stands.bytes h.bytes lt stands.legs h.legs)
+                (puts_even _ _ _ _ _ c.put-2.ensures.cells (texts p) w stands.bytes h.bytes lt stands.tallies h.tallies),
           );
     }
 

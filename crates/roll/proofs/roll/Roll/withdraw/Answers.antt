@@ -1,4 +1,5 @@
 use Rattle.std.proofs.Common.{◌≡◌, ◌<◌, length, None, sym, refl, ◌∙◌, subst}
+use Rattle.folding.proofs.Putting.{puts_even}
 use Rattle.roll.specs.Plain.{texts}
 use Rattle.roll.specs.Refusals.{room}
 use Rattle.roll.specs.Stands.{slots}
@@ -22,8 +23,8 @@ returns-clause-withdraws g c =
             let lt : slot < length (texts p) = subst (λ n. slot < n) (sym (length_texts stands)) in' in (
               refl,
               stands_set _ _ _ p stands slot None tt marks
-                  (c.put.ensures.cells (texts p) _ stands.bytes tt lt stands.legs c.empty-empty.ensures.value)
-                  (c.put-2.ensures.cells (texts p) _ stands.bytes tt lt stands.tallies c.empty.ensures.value),
+                  (puts_even _ _ _ _ _ c.put.ensures.cells (texts p) _ stands.bytes tt lt stands.legs c.empty-empty.ensures.value)
+                  (puts_even _ _ _ _ _ c.put-2.ensures.cells (texts p) _ stands.bytes tt lt stands.tallies c.empty.ensures.value),
             );
       };
       touches = λ free. record {
