@@ -115,11 +115,11 @@ pub(crate) fn end(from: Cursor) -> Result<Cursor, Fault>
 pub(crate) fn members<T: Gathering>(inside: &[u8]) -> T
     ensures value { (rs : List Range) → Members inside.now rs → 0 < length rs → T.Gathering.holds result rs }
 {
-    let mut progress = Progress::Empty;
+    let mut member = Progress::Empty;
     let mut found = T::none();
     for byte in inside {
-        found = progress.finished(&found, *byte);
-        progress.take(*byte);
+        found = member.finished(&found, *byte);
+        member.take(*byte);
     }
-    progress.finished(&found, b']')
+    member.finished(&found, b']')
 }
