@@ -1,12 +1,12 @@
 -- What a bundle's pattern and strips come to, once the pattern is read or refused. Assumes nothing.
-use Rattle.std.proofs.Common.{◌≡◌, ℕ, ◌≤◌, ◌↔◌, List, length, Err, Result, sym, ◌∙◌, subst, inl, inr}
+use Rattle.std.proofs.Common.{◌≡◌, ℕ, ◌↔◌, List, Err, Result, sym, ◌∙◌, subst, inl, inr}
 use Rattle.std.specs.List.{AllByRecursion}
 use Rattle.fault.specs.declared.Fault.{Fault}
 use Rattle.folding.specs.Texts.{Bytes}
 use Rattle.pattern.specs.Expressions.{Regex}
 use Rattle.pattern.specs.Grammar.{Written, deepest}
 use Rattle.pattern.specs.Meaning.{Matches}
-use Rattle.pattern.specs.Reading.{Granted, Refused}
+use Rattle.pattern.specs.Reading.{ReadAs, Granted, Refused}
 use Rattle.bundle.specs.Checks.{Checked}
 use Rattle.bundle.specs.Layout.{Piece, OfBytes}
 use Rattle.bundle.specs.Outcome.{opened, filed, Reported}
@@ -19,8 +19,6 @@ read_refused p q ss r f g same refused is e = inl (f, subst (λ x. Refused x f) 
 
 -- `held` is what the record holds, and `ts` the strips that were filed
 pub read_granted : (p q held : List ℕ) (n : ℕ) (ss ts : List Piece) (r : Result Report Fault) (M : List ℕ → Type 0) → q ≡ p → Granted q n → held ≡ q → ((e : Regex) → Written deepest held e → (w : List ℕ) → Bytes w → M w ↔ Matches e w) → ts ≡ ss → AllByRecursion OfBytes ss → Reported M (filed opened ts) r → Checked p ss r
-read_granted p q held n ss ts r M same granted holds means filing of report =
-    let e = granted.expression in
-    let written : Written deepest p e = subst (λ x. Written deepest x e) same granted.written in
-    let exactly = means e (subst (λ x. Written deepest x e) (sym holds) granted.written) in
-    inr (e, (subst (λ x. length x ≤ 256) same granted.short, written, granted.few), reported_same M (Matches e) exactly ss r of (subst (λ x. Reported M (filed opened x) r) filing report))
+read_granted p q held n ss ts r M same (e, read, _) holds means filing of report =
+    let exactly = means e (subst (λ x. Written deepest x e) (sym holds) read.written) in
+    inr (e, subst (λ x. ReadAs x e) same read, reported_same M (Matches e) exactly ss r of (subst (λ x. Reported M (filed opened x) r) filing report))

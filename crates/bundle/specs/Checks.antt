@@ -1,17 +1,14 @@
 -- What the check of a bundle answers, in terms of its bytes, the notation, the meaning and the plain roll. Assumes nothing.
 --
---   Read p e         the pattern p is small enough, and is written so that it is read as e
 --   Checked p ss r   r is what the strips ss come to under the pattern p: the pattern's fault, or their report or fault
 --   Outcome input r  r is what an input comes to: the fault of its size, or what its strips come to under its pattern
 --   said r           the text that is printed
-use Rattle.std.specs.Prelude.{◌≡◌, ℕ, ◌≤◌, ◌⊎◌, List, length, Ok, Err, Result}
+use Rattle.std.specs.Prelude.{◌≡◌, ℕ, ◌⊎◌, List, Ok, Err, Result}
 use Rattle.fault.specs.Lines.{line}
 use Rattle.fault.specs.declared.Fault.{Fault}
 use Rattle.pattern.specs.Expressions.{Regex}
-use Rattle.pattern.specs.Grammar.{Written, deepest}
 use Rattle.pattern.specs.Meaning.{Matches}
-use Rattle.pattern.specs.Places.{places}
-use Rattle.pattern.specs.Reading.{Refused}
+use Rattle.pattern.specs.Reading.{ReadAs, Refused}
 use Rattle.bundle.specs.Layout.{Piece, written}
 use Rattle.bundle.specs.Lines.{lines}
 use Rattle.bundle.specs.Outcome.{opened, filed, Reported}
@@ -19,11 +16,8 @@ use Rattle.bundle.specs.Sizes.{RightSize}
 use Rattle.bundle.specs.Wrong.{wrong_size}
 use Rattle.bundle.specs.declared.report.Report.{Report}
 
-abbrev pub Read : List ℕ → Regex → Type 0
-Read p e = (length p ≤ 256) × Written deepest p e × (places e ≤ 63)
-
 abbrev pub Checked : List ℕ → List Piece → Result Report Fault → Type 0
-Checked p ss r = ((f : Fault) × Refused p f × (r ≡ Err f)) ⊎ ((e : Regex) × Read p e × Reported (Matches e) (filed opened ss) r)
+Checked p ss r = ((f : Fault) × Refused p f × (r ≡ Err f)) ⊎ ((e : Regex) × ReadAs p e × Reported (Matches e) (filed opened ss) r)
 
 abbrev pub Outcome : List ℕ → Result Report Fault → Type 0
 Outcome input r = ((RightSize input → ⊥) × (r ≡ Err (wrong_size input))) ⊎ (RightSize input × ((p : List ℕ) × (ss : List Piece) × (input ≡ written p ss) × Checked p ss r))

@@ -1,10 +1,10 @@
 -- What the tests on a byte tell of it. Assumes nothing.
 use Rattle.std.proofs.Common.{◌≡◌, ℕ, ◌+◌, ◌-◌, ◌<◌, ◌≤◌, true, cond, ◌&&◌, eqb, leb, sym, ap, ◌∙◌, ⊎_elim, arith}
 use Rattle.std.proofs.lemmas.Bool.{true≢false, eqb-true, le-leb, leb-true, cond_both, cond-true, or_cases, and_parts, and_from}
-use Rattle.pattern.specs.Characters.{Kind, bar, times, add, query, open', close', square, unsquare, brace, unbrace, dot, backslash, plain, kind, has_office, escapable, ClassKind, ends, slash, hyphen, barred, itself, class_kind}
+use Rattle.pattern.specs.Characters.{Kind, bar, times, add, query, open', close', square, unsquare, brace, unbrace, dot, backslash, plain, kind, is_special, escapable, ClassKind, ends, slash, hyphen, barred, itself, class_kind}
 use Rattle.pattern.specs.Automaton.{CountKind, digit, comma, ended, other, count_kind}
 
--- the byte that has this office
+-- the byte of this kind
 abbrev pub Has : Kind → ℕ → Type 0
 Has bar b = b ≡ 124
 Has times b = b ≡ 42
@@ -29,28 +29,28 @@ has b =
     (kind_cond b 40 open' _ (λ e. e) (kind_cond b 41 close' _ (λ e. e) (kind_cond b 91 square _ (λ e. e) (kind_cond b 93 unsquare _ (λ e. e)
     (kind_cond b 123 brace _ (λ e. e) (kind_cond b 125 unbrace _ (λ e. e) (kind_cond b 46 dot _ (λ e. e) (kind_cond b 92 backslash plain (λ e. e) tt)))))))))))
 
-office_low : (k : Kind) (b : ℕ) → Has k b → has_office k ≡ true → b ≤ 125
-office_low bar b h e = omega arith
-office_low times b h e = omega arith
-office_low add b h e = omega arith
-office_low query b h e = omega arith
-office_low open' b h e = omega arith
-office_low close' b h e = omega arith
-office_low square b h e = omega arith
-office_low unsquare b h e = omega arith
-office_low brace b h e = omega arith
-office_low unbrace b h e = omega arith
-office_low dot b h e = omega arith
-office_low backslash b h e = omega arith
-office_low plain b h e = absurd (true≢false (sym e))
+special_low : (k : Kind) (b : ℕ) → Has k b → is_special k ≡ true → b ≤ 125
+special_low bar b h e = omega arith
+special_low times b h e = omega arith
+special_low add b h e = omega arith
+special_low query b h e = omega arith
+special_low open' b h e = omega arith
+special_low close' b h e = omega arith
+special_low square b h e = omega arith
+special_low unsquare b h e = omega arith
+special_low brace b h e = omega arith
+special_low unbrace b h e = omega arith
+special_low dot b h e = omega arith
+special_low backslash b h e = omega arith
+special_low plain b h e = absurd (true≢false (sym e))
 
 pub escapable_low : (b : ℕ) → escapable b ≡ true → b ≤ 125
 escapable_low b e =
-    ⊎_elim (λ o. office_low (kind b) b (has b) o)
+    ⊎_elim (λ o. special_low (kind b) b (has b) o)
     (λ rest. ⊎_elim (λ (h : eqb b 45 ≡ true). omega (arith, eqb-true b 45 h)) (λ (h : eqb b 94 ≡ true). omega (arith, eqb-true b 94 h)) (or_cases _ _ rest))
     (or_cases _ _ e)
 
--- the byte that has this office inside a class
+-- the byte of this kind inside a class
 abbrev pub InClass : ClassKind → ℕ → Type 0
 InClass ends b = b ≡ 93
 InClass slash b = b ≡ 92
@@ -64,7 +64,7 @@ class_cond b c k l is rest = cond_both (eqb b c) k l (λ x. InClass x b) (λ e. 
 pub in_class_lem : (b : ℕ) → InClass (class_kind b) b
 in_class_lem b = class_cond b 93 ends _ (λ e. e) (class_cond b 92 slash _ (λ e. e) (class_cond b 45 hyphen _ (λ e. e) (class_cond b 91 barred _ (λ e. tt) (class_cond b 94 barred itself (λ e. tt) tt))))
 
--- the byte that has this office inside a counted repeat
+-- the byte of this kind inside a counted repeat
 abbrev pub InCount : CountKind → ℕ → Type 0
 InCount (digit k) b = (b ≡ 48 + k) × (k < 10)
 InCount comma b = b ≡ 44

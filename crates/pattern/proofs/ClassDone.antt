@@ -26,7 +26,7 @@ fresh_done hyphen b rs = tt
 fresh_done barred b rs = tt
 fresh_done itself b rs = same rs
 
--- a byte with no office is none of those that have one
+-- a byte that stands for itself is none of those that do not
 not_itself : (b c : ℕ) → kind_is_itself (class_kind c) ≡ false → class_kind b ≡ itself → (x y : List Range) (P : List Range → Type 0) → P y → P (cond (eqb b c) x y)
 not_itself b c is none x y P h = cond_both (eqb b c) x y P (λ e. absurd (true≢false (sym (ap kind_is_itself none) ∙ ap (λ n. kind_is_itself (class_kind n)) (eqb-true b c e) ∙ is))) (λ _. h)
 

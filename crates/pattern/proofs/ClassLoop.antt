@@ -11,11 +11,10 @@ use Rattle.pattern.specs.Expressions.{Range, one}
 use Rattle.pattern.specs.Grammar.{Members, none}
 use Rattle.pattern.specs.Characters.{class_kind}
 use Rattle.pattern.specs.Automaton.{Frame, state, opened, after, bad, in_class, fresh, class_next, of_class, inside, verdict}
-use Rattle.pattern.specs.Classes.{state_of, Suits, Follows, done_by, ClassHeard, ClassStops, ClassRefused}
+use Rattle.pattern.specs.Classes.{state_of, Suits, Follows, ClassRead, ClassStops, ClassRefused}
 use Rattle.pattern.specs.Refusals.{refused}
 use Rattle.pattern.proofs.Seen.{Class}
 use Rattle.pattern.proofs.ClassSeen.{class_goes, Goes}
-use Rattle.pattern.proofs.ClassDone.{Done, next_done}
 use Rattle.pattern.proofs.Slices.{drop_is, stops_at, stopped, split_at}
 use Rattle.pattern.proofs.Runs.{verdict_alive, verdict_end}
 use Rattle.pattern.proofs.ClassRuns.{class_runs}
@@ -26,28 +25,26 @@ use Rattle.pattern.proofs.Faults.{unread}
 abbrev Open : List ℕ → ℕ → ℕ → Type 0
 Open p at i = (n : ℕ) (rs : List Range) → n < i - at → Members (take n (drop at p)) rs → 0 < length rs → get_or p (at + n) 0 ≡ 93 → ⊥
 
-pub record Far (p : List ℕ) (at i : ℕ) (progress : Progress) (E : List Range → Type 0) : Type 0 where
+pub record Far (p : List ℕ) (at i : ℕ) (progress : Progress) : Type 0 where
   pub forward : at ≤ i
   pub ranges : List Range
   pub suits : Suits ranges progress
-  pub holds : E ranges
   pub class : Class ranges (state_of progress) (take (i - at) (drop at p))
   pub over : (fr : Frame) (d : ℕ) (ctx : List Frame) (w : List ℕ)
       → verdict (state (in_class [] fresh) fr d ctx) (take (i - at) (drop at p) ++ w) ≡ verdict (state (in_class ranges (state_of progress)) fr d ctx) w
   pub open' : Open p at i
 
-runs : (p : List ℕ) (at i : ℕ) (progress : Progress) (E : List Range → Type 0) (far : Far p at i progress E) (fr : Frame) (d : ℕ) (ctx : List Frame)
+runs : (p : List ℕ) (at i : ℕ) (progress : Progress) (far : Far p at i progress) (fr : Frame) (d : ℕ) (ctx : List Frame)
     → verdict (state (in_class [] fresh) fr d ctx) (drop at p) ≡ verdict (state (in_class far.ranges (state_of progress)) fr d ctx) (drop i p)
-runs p at i progress E far fr d ctx = ap (verdict _) (split_at p at i far.forward) ∙ far.over fr d ctx (drop i p)
+runs p at i progress far fr d ctx = ap (verdict _) (split_at p at i far.forward) ∙ far.over fr d ctx (drop i p)
 
-pub far_none : (p : List ℕ) (at : ℕ) (E : List Range → Type 0) → E [] → Far p at at Empty E
-far_none p at E empty =
+pub far_none : (p : List ℕ) (at : ℕ) → Far p at at Empty
+far_none p at =
     let none_yet : 0 ≡ at - at = omega arith in
     record {
       forward = omega arith;
       ranges = [];
       suits = refl;
-      holds = empty;
       class = subst (λ n. Class [] fresh (take n (drop at p))) none_yet ([], [], refl, none, refl);
       over = λ fr d ctx w. ap (λ n. verdict (state (in_class [] fresh) fr d ctx) (take n (drop at p) ++ w)) (sym none_yet);
       open' = λ n rs lt _ _ _. omega arith;
@@ -71,15 +68,12 @@ class_none p at i f none_yet stop is n rs members some inside' bracket =
     let few = unread _ (drop (at + n + 1) p) _ over in
     none_yet n rs (omega (arith, length-drop (at + n + 1) p, s.within, ap (λ x. x.place) is)) members some bracket
 
-module _ (p : List ℕ) (at i b : ℕ) (old : Progress) (E : List Range → Type 0) (lt : i < length p) (byte : get_or p i 0 ≡ b) (small : b < 256) (far : Far p at i old E) where
+module _ (p : List ℕ) (at i b : ℕ) (old : Progress) (lt : i < length p) (byte : get_or p i 0 ≡ b) (small : b < 256) (far : Far p at i old) where
   longer : take (i + 1 - at) (drop at p) ≡ take (i - at) (drop at p) ++ b ∷ []
   longer = one_more p at i far.forward lt ∙ ap (λ x. take (i - at) (drop at p) ++ x ∷ []) byte
 
   goes : Goes (class_next (class_kind b) b far.ranges (state_of old)) (take (i - at) (drop at p)) b
   goes = class_goes b small far.ranges (state_of old) _ far.class
-
-  done : Done (class_next (class_kind b) b far.ranges (state_of old)) (far.ranges ++ done_by old b)
-  done = next_done old b far.ranges
 
   -- a class that ends here would be read, and the automaton is still inside one
   goes_on : (ms : List Range) → Members (take (i - at) (drop at p)) ms → 0 < length ms → b ≡ 93 → (rs : List Range) (new : Progress)
@@ -92,15 +86,14 @@ module _ (p : List ℕ) (at i b : ℕ) (old : Progress) (E : List Range → Type
       ∙ verdict_alive _ (state (in_class rs (state_of new)) opened 0 []) b [] (ap (λ n. of_class n opened 0 []) is) ∙ verdict_end (state (in_class rs (state_of new)) opened 0 []) in
       never _ 0 (sym not_ended ∙ ended)
 
-  pub far_more : (new : Progress) (E' : List Range → Type 0) → ((rs : List Range) → E rs → E' (rs ++ done_by old b)) → Follows old b (Some Inside) new → Far p at (i + 1) new E'
-  far_more new E' told follows =
+  pub far_more : (new : Progress) → Follows old b (Some Inside) new → Far p at (i + 1) new
+  far_more new follows =
       let (rs, is, suits) = follows far.ranges far.suits in
       let le = far.forward in
       record {
         forward = omega arith;
         ranges = rs;
         suits = suits;
-        holds = subst E' (sym (subst (λ n. Done n (far.ranges ++ done_by old b)) is done)) (told far.ranges far.holds);
         class = subst (Class rs (state_of new)) (sym longer) (subst (λ n. Goes n (take (i - at) (drop at p)) b) is goes);
         over = λ fr d ctx w.
             ap (λ l. verdict (state (in_class [] fresh) fr d ctx) (l ++ w)) longer ∙ ap (verdict _) (append_assoc (take (i - at) (drop at p)) (b ∷ []) w)
@@ -111,14 +104,11 @@ module _ (p : List ℕ) (at i b : ℕ) (old : Progress) (E : List Range → Type
             (cases_lt n (i - at));
       }
 
-  pub far_ended : (new : Progress) (E' : List Range → Type 0) → ((rs : List Range) → E rs → E' (rs ++ done_by old b)) → Follows old b (Some Ended) new → ClassHeard p at i E'
-  far_ended new E' told follows =
+  pub far_ended : (new : Progress) → Follows old b (Some Ended) new → ClassRead p at i
+  far_ended new follows =
       let (rs, is) = follows far.ranges far.suits in
       let (bracket, some, ms) = subst (λ n. Goes n (take (i - at) (drop at p)) b) is goes in
-      record {
-        read = record { forward = far.forward; within = lt; bracket = byte ∙ bracket; members = rs; some = some; written = ms };
-        holds = subst E' (sym (subst (λ n. Done n (far.ranges ++ done_by old b)) is done)) (told far.ranges far.holds);
-      }
+      record { forward = far.forward; within = lt; bracket = byte ∙ bracket; members = rs; some = some; written = ms }
 
   pub far_refused : (new : Progress) (f : Fault) → Follows old b None new → f ≡ refused BadlyWritten i → ClassRefused p at f
   far_refused new f follows is = record { none = class_none p at i f far.open' stop is; stops = stop }
@@ -126,11 +116,11 @@ module _ (p : List ℕ) (at i b : ℕ) (old : Progress) (E : List Range → Type
       stop : ClassStops p at f
       stop fr d ctx =
           stopped p f i _ is (omega arith)
-          (runs p at i old E far fr d ctx ∙ stops_at p i _ (omega arith) refl (λ _. ap (λ x. of_class (class_next (class_kind x) x far.ranges (state_of old)) fr d ctx) byte ∙ ap (λ n. of_class n fr d ctx) (follows far.ranges far.suits)))
+          (runs p at i old far fr d ctx ∙ stops_at p i _ (omega arith) refl (λ _. ap (λ x. of_class (class_next (class_kind x) x far.ranges (state_of old)) fr d ctx) byte ∙ ap (λ n. of_class n fr d ctx) (follows far.ranges far.suits)))
 
 -- the pattern ends here, and no class did
-pub far_all : (p : List ℕ) (at i : ℕ) (old : Progress) (E : List Range → Type 0) (f : Fault) → Far p at i old E → length p ≤ i → i ≤ length p → f ≡ refused BadlyWritten i → ClassRefused p at f
-far_all p at i old E f far past within is = record { none = class_none p at i f far.open' stop is; stops = stop }
+pub far_all : (p : List ℕ) (at i : ℕ) (old : Progress) (f : Fault) → Far p at i old → length p ≤ i → i ≤ length p → f ≡ refused BadlyWritten i → ClassRefused p at f
+far_all p at i old f far past within is = record { none = class_none p at i f far.open' stop is; stops = stop }
   where
     stop : ClassStops p at f
-    stop fr d ctx = stopped p f i _ is within (runs p at i old E far fr d ctx ∙ stops_at p i _ within refl (λ lt. absurd (omega arith)))
+    stop fr d ctx = stopped p f i _ is within (runs p at i old far fr d ctx ∙ stops_at p i _ within refl (λ lt. absurd (omega arith)))

@@ -1,13 +1,40 @@
--- The automaton reads each well-written class. Assumes nothing.
+-- A well-written class is run through to its bracket, by itself and by the automaton. Assumes nothing.
 use Rattle.std.proofs.Common.{◌≡◌, ℕ, ◌<◌, ◌≤◌, Bool, true, false, ◌&&◌, leb, List, [], ◌∷◌, ◌++◌, length, sym, refl, ap, ◌∙◌, append_assoc, arith}
 use Rattle.std.proofs.lemmas.List.{length-append}
 use Rattle.std.proofs.lemmas.Bool.{true≢false, le-leb, cond-true, and_from}
 use Rattle.pattern.specs.Characters.{ClassKind, ends, slash, hyphen, barred, itself, class_kind, escapable}
 use Rattle.pattern.specs.Expressions.{Range, one}
 use Rattle.pattern.specs.Grammar.{ClassByte, bare, escaped, Member, single, range, Members, none, more}
-use Rattle.pattern.specs.Automaton.{Frame, State, state, after, in_class, fresh, in_escape, member, dashed, dashed_escape, ClassState, class_next, of_class, inside, verdict}
+use Rattle.pattern.specs.Automaton.{Frame, state, after, in_class, fresh, in_escape, member, dashed, dashed_escape, ClassState, ClassNext, no_class, inside, finished, class_next, of_class, verdict}
 use Rattle.pattern.proofs.Chars.{escapable_low}
-use Rattle.pattern.proofs.Runs.{verdict_alive, verdict_is, verdict_end, onward}
+use Rattle.pattern.proofs.Runs.{verdict_is, onward}
+
+-- where a text leads inside a class
+pub class_run : List ℕ → ClassNext → ClassNext
+class_run [] n = n
+class_run (b ∷ w) no_class = no_class
+class_run (b ∷ w) (inside rs c) = class_run w (class_next (class_kind b) b rs c)
+class_run (b ∷ w) (finished rs) = no_class
+
+pub run_end : (n : ClassNext) → class_run [] n ≡ n
+unfolding class_run
+run_end n = refl
+
+pub run_on : (b : ℕ) (w : List ℕ) (rs : List Range) (c : ClassState) → class_run (b ∷ w) (inside rs c) ≡ class_run w (class_next (class_kind b) b rs c)
+unfolding class_run
+run_on b w rs c = refl
+
+pub run_past : (b : ℕ) (w : List ℕ) (rs : List Range) → class_run (b ∷ w) (finished rs) ≡ no_class
+unfolding class_run
+run_past b w rs = refl
+
+pub run_dead : (w : List ℕ) → class_run w no_class ≡ no_class
+unfolding class_run
+run_dead [] = refl
+run_dead (b ∷ w) = refl
+
+run_goes : (b : ℕ) (w : List ℕ) (rs : List Range) (c : ClassState) (n : ClassNext) → class_next (class_kind b) b rs c ≡ n → class_run (b ∷ w) (inside rs c) ≡ class_run w n
+run_goes b w rs c n is = run_on b w rs c ∙ ap (class_run w) is
 
 pub push_some : (rs : List Range) (r : Range) → 0 < length (rs ++ r ∷ [])
 push_some rs r = rw length-append (omega arith)
@@ -19,9 +46,9 @@ is_hyphen hyphen = true
 is_hyphen barred = false
 is_hyphen itself = false
 
--- no hyphen comes first in w
+-- w begins, and with no hyphen
 abbrev pub NoHyphen : List ℕ → Type 0
-NoHyphen [] = Unit {0}
+NoHyphen [] = ⊥
 NoHyphen (b ∷ w) = is_hyphen (class_kind b) ≡ false
 
 byte_no_hyphen : {w : List ℕ} {b : ℕ} → ClassByte w b → (r : List ℕ) → NoHyphen (w ++ r)
@@ -44,49 +71,62 @@ member_no_hyphen : {w : List ℕ} {r : Range} → Member w r → (rest : List �
 member_no_hyphen (single c) rest = byte_no_hyphen c rest
 member_no_hyphen (range {v = v} {w = w} c _ _) rest = rw append_assoc (byte_no_hyphen c _)
 
+member_settles : (rs : List Range) (a : ℕ) (w : List ℕ) → NoHyphen w → class_run w (inside rs (member a)) ≡ class_run w (inside (rs ++ (a, a) ∷ []) fresh)
+member_settles rs a [] h = absurd h
+member_settles rs a (b ∷ w) h = run_goes b w rs (member a) _ (member_settled (class_kind b) b a rs h) ∙ sym (run_on b w _ fresh)
+
+byte_runs : {v : List ℕ} {b : ℕ} → ClassByte v b → (rs : List Range) (w : List ℕ) → class_run (v ++ w) (inside rs fresh) ≡ class_run w (inside rs (member b))
+byte_runs (bare {b} small is) rs w = run_goes b w rs fresh _ (ap (λ k. class_next k b rs fresh) is)
+byte_runs (escaped {b} is) rs w = run_on 92 (b ∷ w) rs fresh ∙ run_goes b w rs in_escape _ (escape_next (class_kind b))
+  where
+    escape_next : (k : ClassKind) → class_next k b rs in_escape ≡ inside rs (member b)
+    escape_next k = cond-true (escapable b) _ _ is
+
+-- the second byte of a range
+bound_runs : {v : List ℕ} {b : ℕ} → ClassByte v b → (rs : List Range) (a : ℕ) → a ≤ b → (w : List ℕ) → class_run (v ++ w) (inside rs (dashed a)) ≡ class_run w (inside (rs ++ (a, b) ∷ []) fresh)
+bound_runs (bare {b} small is) rs a le w = run_goes b w rs (dashed a) _ (ap (λ k. class_next k b rs (dashed a)) is ∙ cond-true (leb a b) _ _ (le-leb a b le))
+bound_runs (escaped {b} is) rs a le w =
+    let low = escapable_low b is in
+    run_goes 92 (b ∷ w) rs (dashed a) (inside rs (dashed_escape a)) (cond-true (leb a 125) _ _ (le-leb a 125 (omega arith)))
+    ∙ run_goes b w rs (dashed_escape a) _ (escape_next (class_kind b))
+  where
+    escape_next : (k : ClassKind) → class_next k b rs (dashed_escape a) ≡ inside (rs ++ (a, b) ∷ []) fresh
+    escape_next k = cond-true (escapable b && leb a b) _ _ (and_from _ _ is (le-leb a b le))
+
+member_runs : {v : List ℕ} {r : Range} → Member v r → (rs : List Range) (w : List ℕ) → NoHyphen w → class_run (v ++ w) (inside rs fresh) ≡ class_run w (inside (rs ++ r ∷ []) fresh)
+member_runs (single {b = b} c) rs w h = byte_runs c rs w ∙ member_settles rs b w h
+member_runs (range {v = v} {w = u} {a = a} {b = b} c e le) rs w h =
+    ap (λ l. class_run l (inside rs fresh)) (append_assoc v (45 ∷ u) w)
+    ∙ byte_runs c rs (45 ∷ (u ++ w))
+    ∙ run_on 45 (u ++ w) rs (member a)
+    ∙ bound_runs e rs a le w
+
+members_run : {v : List ℕ} {rs : List Range} → Members v rs → (w : List ℕ) → NoHyphen w → class_run (v ++ w) (inside [] fresh) ≡ class_run w (inside rs fresh)
+members_run none w h = refl
+members_run (more {v = v} {w = u} {rs = rs} ms m) w h =
+    ap (λ l. class_run l (inside [] fresh)) (append_assoc v u w)
+    ∙ members_run ms (u ++ w) (member_no_hyphen m w)
+    ∙ member_runs m rs w h
+
+ends_class : (rs : List Range) → 0 < length rs → class_run (93 ∷ []) (inside rs fresh) ≡ finished rs
+unfolding class_run
+ends_class [] some = absurd (omega arith)
+ends_class (r ∷ rs) some = refl
+
+pub class_finishes : {v : List ℕ} {rs : List Range} → Members v rs → 0 < length rs → class_run (v ++ 93 ∷ []) (inside [] fresh) ≡ finished rs
+class_finishes {v} {rs} ms some = members_run ms (93 ∷ []) refl ∙ ends_class rs some
+
+pub not_finished : (rs : List Range) → no_class ≡ finished rs → ⊥
+not_finished rs is = cc
+
 module _ (fr : Frame) (d : ℕ) (ctx : List Frame) where
-  abbrev pub at : List Range → ClassState → State
-  at rs c = state (in_class rs c) fr d ctx
+  finished_verdict : (v : List ℕ) (n : ClassNext) (rs : List Range) → class_run v n ≡ finished rs → (w : List ℕ) → onward (of_class n fr d ctx) (v ++ w) ≡ verdict (state (after (one rs)) fr d ctx) w
+  unfolding class_run
+  finished_verdict [] n rs is w = ap (λ n. onward (of_class n fr d ctx) w) is
+  finished_verdict (b ∷ v) no_class rs is w = absurd (not_finished rs is)
+  finished_verdict (b ∷ v) (inside qs c) rs is w = verdict_is _ b (v ++ w) ∙ finished_verdict v (class_next (class_kind b) b qs c) rs is w
+  finished_verdict (b ∷ v) (finished qs) rs is w = absurd (not_finished rs is)
 
-  member_settles : (rs : List Range) (a : ℕ) (w : List ℕ) → NoHyphen w → verdict (at rs (member a)) w ≡ verdict (at (rs ++ (a, a) ∷ []) fresh) w
-  member_settles rs a [] h = verdict_end _ ∙ sym (verdict_end _)
-  member_settles rs a (b ∷ w) h = verdict_is _ b w ∙ ap (λ n. onward (of_class n fr d ctx) w) (member_settled (class_kind b) b a rs h) ∙ sym (verdict_is _ b w)
-
-  byte_runs : {v : List ℕ} {b : ℕ} → ClassByte v b → (rs : List Range) (w : List ℕ) → verdict (at rs fresh) (v ++ w) ≡ verdict (at rs (member b)) w
-  byte_runs (bare {b} small is) rs w = verdict_alive _ _ b w (ap (λ k. of_class (class_next k b rs fresh) fr d ctx) is)
-  byte_runs (escaped {b} is) rs w =
-      verdict_alive (at rs fresh) (at rs in_escape) 92 (b ∷ w) refl
-      ∙ verdict_alive (at rs in_escape) (at rs (member b)) b w (ap (λ n. of_class n fr d ctx) (escape_next (class_kind b) rs b is))
-    where
-      escape_next : (k : ClassKind) (rs : List Range) (b : ℕ) → escapable b ≡ true → class_next k b rs in_escape ≡ inside rs (member b)
-      escape_next k rs b e = cond-true (escapable b) _ _ e
-
-  -- the second byte of a range
-  bound_runs : {v : List ℕ} {b : ℕ} → ClassByte v b → (rs : List Range) (a : ℕ) → a ≤ b → (w : List ℕ) → verdict (at rs (dashed a)) (v ++ w) ≡ verdict (at (rs ++ (a, b) ∷ []) fresh) w
-  bound_runs (bare {b} small is) rs a le w = verdict_alive _ _ b w (ap (λ k. of_class (class_next k b rs (dashed a)) fr d ctx) is ∙ ap (λ n. of_class n fr d ctx) (cond-true (leb a b) _ _ (le-leb a b le)))
-  bound_runs (escaped {b} is) rs a le w =
-      let low = escapable_low b is in
-      verdict_alive (at rs (dashed a)) (at rs (dashed_escape a)) 92 (b ∷ w) (ap (λ n. of_class n fr d ctx) (cond-true (leb a 125) _ _ (le-leb a 125 (omega arith))))
-      ∙ verdict_alive (at rs (dashed_escape a)) _ b w (ap (λ n. of_class n fr d ctx) (cond-true (escapable b && leb a b) _ _ (and_from _ _ is (le-leb a b le))))
-
-  member_runs : {v : List ℕ} {r : Range} → Member v r → (rs : List Range) (w : List ℕ) → NoHyphen w → verdict (at rs fresh) (v ++ w) ≡ verdict (at (rs ++ r ∷ []) fresh) w
-  member_runs (single {b = b} c) rs w h = byte_runs c rs w ∙ member_settles rs b w h
-  member_runs (range {v = v} {w = u} {a = a} {b = b} c e le) rs w h =
-      ap (verdict (at rs fresh)) (append_assoc v (45 ∷ u) w)
-      ∙ byte_runs c rs (45 ∷ (u ++ w))
-      ∙ verdict_alive (at rs (member a)) (at rs (dashed a)) 45 (u ++ w) refl
-      ∙ bound_runs e rs a le w
-
-  members_run : {v : List ℕ} {rs : List Range} → Members v rs → (w : List ℕ) → NoHyphen w → verdict (at [] fresh) (v ++ w) ≡ verdict (at rs fresh) w
-  members_run none w h = refl
-  members_run (more {v = v} {w = u} {rs = rs} ms m) w h =
-      ap (verdict (at [] fresh)) (append_assoc v u w)
-      ∙ members_run ms (u ++ w) (member_no_hyphen m w)
-      ∙ member_runs m rs w h
-
-  pub ends_class : (rs : List Range) → 0 < length rs → (w : List ℕ) → verdict (at rs fresh) (93 ∷ w) ≡ verdict (state (after (one rs)) fr d ctx) w
-  ends_class [] some w = absurd (omega arith)
-  ends_class (r ∷ rs) some w = verdict_alive (at (r ∷ rs) fresh) _ 93 w refl
-
-  pub class_runs : {v : List ℕ} {rs : List Range} → Members v rs → 0 < length rs → (w : List ℕ) → verdict (at [] fresh) (v ++ 93 ∷ w) ≡ verdict (state (after (one rs)) fr d ctx) w
-  class_runs {v} {rs} ms some w = members_run ms (93 ∷ w) refl ∙ ends_class rs some w
+  pub class_runs : {v : List ℕ} {rs : List Range} → Members v rs → 0 < length rs → (w : List ℕ) → verdict (state (in_class [] fresh) fr d ctx) (v ++ 93 ∷ w) ≡ verdict (state (after (one rs)) fr d ctx) w
+  class_runs {v} {rs} ms some w =
+      ap (verdict _) (sym (append_assoc v (93 ∷ []) w)) ∙ finished_verdict (v ++ 93 ∷ []) (inside [] fresh) rs (class_finishes ms some) w

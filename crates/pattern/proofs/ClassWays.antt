@@ -10,7 +10,7 @@ use Rattle.pattern.specs.Automaton.{class_next, fresh, member, dashed}
 use Rattle.pattern.specs.Classes.{Follows}
 use Rattle.pattern.proofs.ClassRuns.{push_some}
 
--- a byte with no office in a class
+-- a byte that stands for itself in a class
 pub itself_is : (k : ClassKind) → true ≡ kind_is_itself k → k ≡ itself
 itself_is ends e = absurd (true≢false e)
 itself_is slash e = absurd (true≢false e)

@@ -1,9 +1,9 @@
 -- The ways in which a counted repeat is read or refused, after its first count and after its second. Assumes nothing.
-use Rattle.std.proofs.Common.{◌≡◌, ℕ, ◌+◌, ◌-◌, ◌<◌, ◌≤◌, false, leb, List, [], ◌∷◌, ◌++◌, length, get_or, take, drop, decimal, sym, refl, ap, ◌∙◌, subst, ⊎_elim, append_assoc, arith, length-append, length-drop, take-append-drop}
+use Rattle.std.proofs.Common.{◌≡◌, ℕ, ◌+◌, ◌-◌, ◌<◌, ◌≤◌, false, leb, List, [], ◌∷◌, ◌++◌, length, get_or, take, drop, decimal, Result, Ok, Err, MatchResult, IsOk, sym, refl, ap, ◌∙◌, subst, ⊎_elim, append_assoc, arith, length-append, length-drop, take-append-drop}
 use Rattle.std.specs.List.{AllByRecursion}
 use Rattle.std.proofs.lemmas.Fmt.{decimal_digit}
 use Rattle.std.proofs.ByRecursion.{All-append, All-get_or}
-use Rattle.std.proofs.lemmas.List.{get_or_at, get_or_append_left}
+use Rattle.std.proofs.lemmas.List.{take_at, take_all, get_or_at, get_or_append_left}
 use Rattle.std.proofs.lemmas.Bool.{cond-false, lt-leb, cases_lt}
 use Rattle.fault.specs.declared.Fault.{Fault}
 use Rattle.fault.specs.declared.Refusal.TheVariants.{BadlyWritten}
@@ -11,7 +11,7 @@ use Rattle.pattern.specs.Expressions.{empty}
 use Rattle.pattern.specs.Grammar.{Counts, exactly, between}
 use Rattle.pattern.specs.Automaton.{state, in_count, awaiting, digits, CountKind, digit, comma, ended, other, no_count, least, most, count_can_go_on, count_next, of_count, opened, bad, verdict}
 use Rattle.pattern.specs.Refusals.{Stops, refused}
-use Rattle.pattern.specs.Repeats.{NumberRead, NumberRefused, CountsRead, CountsStop, CountsRefused}
+use Rattle.pattern.specs.Repeats.{NumberRead, NumberRefused, Braced, CountsRead, CountsStop, CountsRefused}
 use Rattle.pattern.proofs.Chars.{InCount, in_count_lem}
 use Rattle.pattern.proofs.CountRuns.{counts_run, decimal_two}
 use Rattle.pattern.proofs.Faults.{unread}
@@ -37,9 +37,24 @@ digits_low n top =
     (λ two. subst (AllByRecursion (λ b. b < 58)) (sym (decimal_two n two (omega arith))) (omega arith, (omega arith, tt)))
     (cases_lt n 10)
 
-ends_so : {w : List ℕ} {m n : ℕ} → Counts w m n → (u : List ℕ) × (w ≡ u ++ 125 ∷ [])
-ends_so (exactly {m} hi) = (decimal m, refl)
-ends_so (between {m} {n} le hi) = (decimal m ++ 44 ∷ decimal n, sym (append_assoc (decimal m) (44 ∷ decimal n) (125 ∷ [])))
+-- counts are digits and a comma, and then a brace
+ends_so : {w : List ℕ} {m n : ℕ} → Counts w m n → (u : List ℕ) × (w ≡ u ++ 125 ∷ []) × AllByRecursion (λ b. b < 58) u
+ends_so (exactly {m} hi) = (decimal m, refl, digits_low m hi)
+ends_so (between {m} {n} le hi) =
+    (decimal m ++ 44 ∷ decimal n, sym (append_assoc (decimal m) (44 ∷ decimal n) (125 ∷ [])), All-append (λ b. b < 58) (decimal m) (44 ∷ decimal n) (digits_low m (omega arith)) (omega arith, digits_low n hi))
+
+-- so counts that others begin are all of them
+begin_all : {w u : List ℕ} {m n k l : ℕ} (rest : List ℕ) → Counts w m n → Counts u k l → w ≡ u ++ rest → u ≡ w
+begin_all {w} {u} rest all first is =
+    let (v, ends, low) = ends_so all in
+    let (x, stops, _) = ends_so first in
+    let brace : get_or w (length x) 0 ≡ 125 = ap (λ l. get_or l (length x) 0) (is ∙ ap (λ l. l ++ rest) stops ∙ append_assoc x (125 ∷ []) rest) ∙ get_or_at x 125 rest 0 (length x) refl in
+    let long : length w ≤ length u =
+    ⊎_elim
+    (λ (lt : length x < length v). absurd (omega (arith, brace, ap (λ l. get_or l (length x) 0) ends, get_or_append_left v (125 ∷ []) 0 (length x) lt, All-get_or (λ b. b < 58) v (length x) 0 lt low)))
+    (λ (le : length v ≤ length x). omega (arith, ap length ends, length-append v (125 ∷ []), ap length stops, length-append x (125 ∷ [])))
+    (cases_lt (length x) (length v)) in
+    sym (take_at u rest (length u) refl) ∙ ap (take (length u)) (sym is) ∙ take_all (length u) w long
 
 -- counts end with a brace, so none stand where no brace was read
 counts_none : (p : List ℕ) (at end : ℕ) (f : Fault) (u rest : List ℕ) → CountsStop p at f → f ≡ refused BadlyWritten end → drop at p ≡ u ++ rest → at + length u ≡ end → AllByRecursion (λ b. b < 58) u
@@ -47,7 +62,7 @@ counts_none : (p : List ℕ) (at end : ℕ) (f : Fault) (u rest : List ℕ) → 
 counts_none p at end f u rest stop is begun long low k m n counts =
     let s = stop empty opened 0 [] in
     let left = drop k (drop at p) in
-    let (v, ends) = ends_so counts in
+    let (v, ends, _) = ends_so counts in
     let parts : drop at p ≡ (v ++ 125 ∷ []) ++ left = sym (take-append-drop k (drop at p)) ∙ ap (λ l. l ++ left) ends in
     let over : verdict _ left ≡ bad (length p - f.place) = sym (ap (verdict _) (sym (take-append-drop k (drop at p))) ∙ counts_run empty opened 0 [] counts left) ∙ s.unread in
     let few = unread _ left _ over in
@@ -114,3 +129,13 @@ module _ (p : List ℕ) (at : ℕ) where
     long = simp length-append (omega (arith, num.long, last.long, length-append (decimal n) (125 ∷ [])));
     part = num.text ∙ ap (λ l. decimal m ++ l) (drop_is p mid 44 lt is ∙ ap (λ l. 44 ∷ l) (last.text ∙ ap (λ l. decimal n ++ l) (drop_is p end 125 inside ends) ∙ sym (append_assoc (decimal n) (125 ∷ []) _))) ∙ sym (append_assoc (decimal m) (44 ∷ (decimal n ++ 125 ∷ [])) _);
   }
+
+-- what was read of a counted repeat from its first byte on
+pub braced_read : (t : List ℕ) (m n k l end : ℕ) → Braced t m n → CountsRead t 1 k l end → Braced t k l
+braced_read t m n k l end (w, same, counts) read =
+    (w, same, subst (λ u. Counts u k l) (begin_all (drop end t) counts read.counted (sym (ap (drop 1) same) ∙ read.part)) read.counted)
+
+pub braced_ok : {T : Type 0} (t : List ℕ) (m n : ℕ) (r : Result T Fault) (P : T → Type 0) → Braced t m n → MatchResult r P (CountsRefused t 1) → IsOk r
+braced_ok t m n (Ok x) P braced told = refl
+braced_ok t m n (Err f) P (w, same, counts) refused =
+    absurd (refused.none (length t) m n (subst (λ u. Counts u m n) (sym (take_all (length t) (drop 1 t) (simp length-drop (omega arith)) ∙ ap (drop 1) same)) counts))

@@ -7,7 +7,7 @@ use Rattle.pattern.specs.Grammar.{ClassByte, bare, escaped}
 use Rattle.pattern.specs.Automaton.{Frame, State, state, ready, after, escape, in_class, in_count, ClassState, fresh, in_escape, member, dashed, dashed_escape, CountState, awaiting, digits, Stage, least, most, bound, of_class, of_count, good, closed, push, verdict}
 use Rattle.pattern.proofs.Chars.{escapable_low}
 use Rattle.pattern.proofs.Runs.{NoRepeat, settles, verdict_alive, verdict_end}
-use Rattle.pattern.proofs.ClassRuns.{push_some, ends_class}
+use Rattle.pattern.proofs.ClassRuns.{push_some}
 use Rattle.pattern.proofs.CountRuns.{number_runs, goes_on, decimal_two}
 use Rattle.pattern.proofs.Seen.{Class, Before, Count, Seen}
 use Rattle.pattern.proofs.Sounds.{Bytes}
@@ -47,7 +47,8 @@ byte_small (escaped {b} is) = omega (arith, escapable_low b is)
 
 module _ (fr : Frame) (d : ℕ) (ctx : List Frame) where
   class_closes : (rs : List Range) → 0 < length rs → Ending (state (in_class rs fresh) fr d ctx)
-  class_closes rs some = one_more _ _ 93 (omega arith) (ends_class fr d ctx rs some) (after_ends (one rs) fr d ctx)
+  class_closes [] some = absurd (omega arith)
+  class_closes (r ∷ rs) some = one_more _ _ 93 (omega arith) (λ w. verdict_alive _ _ 93 w refl) (after_ends (one (r ∷ rs)) fr d ctx)
 
   member_ends : (rs : List Range) (a : ℕ) → Ending (state (in_class rs (member a)) fr d ctx)
   member_ends rs a = one_more _ _ 93 (omega arith) (λ w. verdict_alive _ _ 93 w refl) (after_ends (one (rs ++ (a, a) ∷ [])) fr d ctx)

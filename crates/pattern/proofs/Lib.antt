@@ -17,6 +17,7 @@ pub mod CountWays
 pub mod ClassWays
 pub mod ClassDone
 pub mod ClassLoop
+pub mod ClassMembers
 pub mod SignWays
 pub mod Drafting
 pub mod Walking

@@ -42,11 +42,8 @@ module _ (p : List ℕ) (bytes : Bytes p) (short : length p ≤ 256) where
       let written : Written 16 p e = sound p _ bytes (read.runs [] ∙ ap (verdict _) (drop_all end p ge) ∙ verdict_end _) in
       record { expression = e; short = short; written = written; stands = λ f is. subst (S part) (one_reading p e f written is) read.value }
 
-empty_granted : Granted [] 0
-empty_granted = record { expression = empty; short = omega arith; written = lone nothing; few = omega arith; value = refl }
-
 pub empty_readable : (w : List ℕ) → w ≡ [] → Readable w
-empty_readable w is = subst Readable (sym is) (0, empty_granted)
+empty_readable w is = subst Readable (sym is) (empty, record { short = omega arith; written = lone nothing; few = omega arith })
 
 -- the refusals that come before the places are counted
 pub refused_unwritten : (p : List ℕ) (f : Fault) → Unwritten p f → Refused p f
@@ -61,13 +58,13 @@ module _ (p : List ℕ) (n : ℕ) (whole : Assembled (λ k e. k ≡ min (places 
   crowded f many is = inr (inr (whole.short, whole.expression, whole.written, omega (arith, counted), is))
 
   pub granted : n ≤ 63 → Granted p n
-  granted few = record { expression = whole.expression; short = whole.short; written = whole.written; few = omega (arith, counted); value = omega (arith, counted) }
+  granted few = (whole.expression, record { short = whole.short; written = whole.written; few = omega (arith, counted) }, omega (arith, counted))
 
 -- what is refused is not readable
 pub not_both : (p : List ℕ) (f : Fault) → Refused p f → Readable p → ⊥
-not_both p f (inl (long, _)) (n, granted') = omega (arith, granted'.short)
-not_both p f (inr (inl (_, not-well, _, _))) (n, granted') = not-well (granted'.expression, granted'.written)
-not_both p f (inr (inr (_, e, is, many, _))) (n, granted') = omega (arith, granted'.few, ap places (one_reading p e granted'.expression is granted'.written))
+not_both p f (inl (long, _)) (e, read) = omega (arith, read.short)
+not_both p f (inr (inl (_, not-well, _, _))) (e, read) = not-well (e, read.written)
+not_both p f (inr (inr (_, d, is, many, _))) (e, read) = omega (arith, read.few, ap places (one_reading p d e is read.written))
 
 -- what a record holds is not refused
 pub readable_ok : {T : Type 0} (r : Result T Fault) (P : T → Type 0) (w p : List ℕ) → MatchResult r P (Unwritten w) → Readable p → w ≡ p → IsOk r

@@ -1,6 +1,5 @@
 -- The step of the recursive reader over each sign that was handed out. Assumes nothing.
-use Rattle.std.proofs.Common.{◌≡◌, ℕ, ◌+◌, ◌-◌, ◌<◌, ◌≤◌, Bool, true, false, List, [], ◌∷◌, ◌++◌, length, get_or, take, drop, sym, refl, ap, ◌∙◌, subst, arith, Bor}
-use Rattle.fault.specs.declared.Fault.{Fault}
+use Rattle.std.proofs.Common.{◌≡◌, ℕ, ◌+◌, ◌<◌, ◌≤◌, Bool, true, false, List, [], ◌∷◌, ◌++◌, length, drop, sym, refl, ap, ◌∙◌, subst, append_assoc, arith, Bor}
 use Rattle.pattern.specs.declared.sign.Sign.{Sign}
 use Rattle.pattern.specs.declared.sign.Sign.TheVariants.{Plain, Escape, Any, Class, Bar, Star, Plus, Question, Counted}
 use Rattle.pattern.specs.Characters.{kind, plain, escapable}
@@ -9,15 +8,12 @@ use Rattle.pattern.specs.Grammar.{Members, Counts, exactly, between, Repeated, b
 use Rattle.pattern.specs.Automaton.{Frame, Mode, ready, after, in_class, fresh, state, begin, verdict}
 use Rattle.pattern.specs.Drafts.{AtomKept, BarKept, RepeatKept}
 use Rattle.pattern.specs.Signs.{text, is_end, Formed, Handed, Waits}
-use Rattle.pattern.specs.Classes.{ClassHeard, ClassStops}
-use Rattle.pattern.specs.Repeats.{CountsRead, CountsStop}
-use Rattle.pattern.specs.Walks.{Leads, Steps, StepStops, GroupRead}
+use Rattle.pattern.specs.Repeats.{Braced}
+use Rattle.pattern.specs.Walks.{Leads, Steps, GroupRead}
 use Rattle.pattern.proofs.Runs.{NoRepeat, is_repeat, verdict_alive}
 use Rattle.pattern.proofs.ClassRuns.{class_runs}
 use Rattle.pattern.proofs.Completes.{escape_runs}
-use Rattle.pattern.proofs.Slices.{drop_is, head_is, split_at, moves}
-use Rattle.pattern.proofs.SignWays.{count_stops, class_stops}
-use Rattle.pattern.proofs.Walking.{inside, part_within, atom_leads, bar_leads, repeat_leads, sign_stops}
+use Rattle.pattern.proofs.Walking.{inside, part_within, atom_leads, bar_leads, repeat_leads}
 
 -- a sign of one byte that was handed out
 pub begun : (p : List ℕ) (at : ℕ) (r : Bool) (s s' : Sign) (b : ℕ) → Handed p at r s → s ≡ s' → false ≡ is_end s' → (Formed r s' → text s' ≡ b ∷ []) → (at < length p) × (drop at p ≡ b ∷ drop (at + length (text s)) p)
@@ -50,6 +46,11 @@ module _ (p : List ℕ) (at d n : ℕ) (r : Bool) (K K' : Mode → Frame → Typ
   pub any_steps : u ≡ 46 ∷ [] → AtomKept K K' (one any) → Steps p at d K (at + n) K'
   any_steps is told = atom (46 ∷ []) (one any) is (omega arith) refl (λ fr ctx w. verdict_alive _ _ 46 w refl) told
 
+  pub class_steps : (w : List ℕ) (rs : List Range) → u ≡ 91 ∷ (w ++ 93 ∷ []) → Members w rs → 0 < length rs → AtomKept K K' (one rs) → Steps p at d K (at + n) K'
+  class_steps w rs is ms some told =
+      atom (91 ∷ (w ++ 93 ∷ [])) (one rs) is (omega arith) refl
+      (λ fr ctx l. verdict_alive _ (state (in_class [] fresh) fr d ctx) 91 _ refl ∙ ap (verdict _) (append_assoc w (93 ∷ []) l) ∙ class_runs fr d ctx ms some l) told
+
   pub bar_steps : u ≡ 124 ∷ [] → BarKept K K' → Steps p at d K (at + n) K'
   bar_steps is told = steps (omega (arith, ap length is)) (bar_leads p at d r K waits (at + n) K' (begins (124 ∷ []) is) told)
 
@@ -65,39 +66,14 @@ module _ (p : List ℕ) (at d n : ℕ) (r : Bool) (K K' : Mode → Frame → Typ
   pub plus_steps : u ≡ 43 ∷ [] → r ≡ true → RepeatKept K K' plus → Steps p at d K (at + n) K'
   plus_steps is again told = repeat_steps (43 ∷ []) plus is (omega arith) (λ e. by_plus) again told
 
+  pub counted_steps : (w : List ℕ) (m k : ℕ) → u ≡ 123 ∷ w → Counts w m k → r ≡ true → RepeatKept K K' (counted m k) → Steps p at d K (at + n) K'
+  counted_steps w m k is counts again told = repeat_steps (123 ∷ w) (counted m k) is (omega arith) (λ e. by_count counts) again told
+
 counts_rise : {w : List ℕ} {m n : ℕ} → Counts w m n → m ≤ n
 counts_rise (exactly le) = omega arith
 counts_rise (between rise le) = rise
 
 module _ (p : List ℕ) (at d : ℕ) (r : Bool) (K : Mode → Frame → Type 0) (waits : (m : Mode) (fr : Frame) → K m fr → Waits r m) (lt : at < length p) where
-  pub counted_steps : (K' : Mode → Frame → Type 0) (m n end : ℕ) → get_or p at 0 ≡ 123 → CountsRead p (at + 1) m n end → r ≡ true → (m ≤ n → RepeatKept K K' (counted m n)) → Steps p at d K end K'
-  counted_steps K' m n end is read again told =
-      let long = read.long in
-      record {
-        forward = omega arith;
-        within = read.within;
-        leads = repeat_leads p at d r K waits end K' (123 ∷ read.words) (counted m n) (λ e. by_count read.counted) again (drop_is p at 123 lt is ∙ ap (λ l. 123 ∷ l) read.part) (told (counts_rise read.counted));
-      }
-
-  pub counted_stops : (f : Fault) → get_or p at 0 ≡ 123 → r ≡ true → CountsStop p (at + 1) f → StepStops p at d K f
-  counted_stops f is again stop = sign_stops p at d r K waits f (rw again (count_stops p at lt f is stop))
-
-  pub class_steps : (K' : Mode → Frame → Type 0) (end : ℕ) (E : List Range → Type 0) → get_or p at 0 ≡ 91 → ClassHeard p (at + 1) end E
-      → ((w : List ℕ) (rs : List Range) → Members w rs → 0 < length rs → E rs → AtomKept K K' (one rs)) → Steps p at d K (end + 1) K'
-  class_steps K' end E is heard told =
-      let read = heard.read in
-      let forward = read.forward in
-      let within = read.within in
-      let inner = take (end - (at + 1)) (drop (at + 1) p) in
-      let parts : drop (at + 1) p ≡ inner ++ 93 ∷ drop (end + 1) p = split_at p (at + 1) end forward ∙ ap (λ l. inner ++ l) (drop_is p end 93 within read.bracket) in
-      record {
-        forward = omega arith;
-        within = omega arith;
-        leads = atom_leads p at d r K waits (end + 1) K' (one read.members) (subst NoRepeat (sym (drop_is p at 91 lt is)) refl)
-            (λ fr ctx. moves p at 91 _ (state (in_class [] fresh) fr d ctx) lt is refl ∙ ap (verdict _) parts ∙ class_runs fr d ctx read.written read.some (drop (end + 1) p))
-            (told inner read.members read.written read.some heard.holds);
-      }
-
   pub group_steps : (K' : Mode → Frame → Type 0) (w : List ℕ) (end : ℕ) (E : Regex → Type 0) → drop at p ≡ 40 ∷ w → GroupRead p at d end E → ((e : Regex) → E e → AtomKept K K' e) → Steps p at d K end K'
   group_steps K' w end E is read told = record {
     forward = read.forward;
@@ -138,25 +114,15 @@ module _ (p : List ℕ) (at d n : ℕ) (r : Bool) (K K' : Mode → Frame → Typ
   pub plus_of : (t : Bor (List ℕ)) → s ≡ Plus t → RepeatKept K K' plus → Steps p at d K (at + n) K'
   plus_of t is told = let f = formed (Plus t) is in plus_steps p at d n r K K' waits (text s) (within (Plus t) is refl) handed.part long (ap text is ∙ f.0) f.1 told
 
-module _ (p : List ℕ) (at d : ℕ) (r : Bool) (K : Mode → Frame → Type 0) (waits : (m : Mode) (fr : Frame) → K m fr → Waits r m) (s : Sign) (t : Bor (List ℕ)) (handed : Handed p at r s) (is : s ≡ Counted t) where
-  counted_here : (at < length p) × (get_or p at 0 ≡ 123) × (r ≡ true)
-  counted_here =
-      let f : Formed r (Counted t) = subst (Formed r) is handed.formed in
-      (inside p at (sym (ap is_end is) ∙ handed.ended), head_is p at 123 _ (handed.part ∙ ap (λ l. l ++ drop (at + length (text s)) p) (ap text is ∙ f.3)), f.5)
+  pub class_of : (t : Bor (List ℕ)) → s ≡ Class t → ((rs : List Range) → Members t.now rs → 0 < length rs → AtomKept K K' (one rs)) → Steps p at d K (at + n) K'
+  class_of t is told =
+      let f = formed (Class t) is in
+      class_steps p at d n r K K' waits (text s) (within (Class t) is refl) handed.part long t.now f.0 (ap text is) f.1 f.2 (told f.0 f.1 f.2)
 
-  pub counted_of : (K' : Mode → Frame → Type 0) (m n end : ℕ) → CountsRead p (at + 1) m n end → (m ≤ n → RepeatKept K K' (counted m n)) → Steps p at d K end K'
-  counted_of K' m n end read told = let (lt, brace, again) = counted_here in counted_steps p at d r K waits lt K' m n end brace read again told
+  pub counted_of : (t : Bor (List ℕ)) → s ≡ Counted t → (m k : ℕ) → Braced t.now m k → (m ≤ k → RepeatKept K K' (counted m k)) → Steps p at d K (at + n) K'
+  counted_of t is m k (w, same, counts) told =
+      counted_steps p at d n r K K' waits (text s) (within (Counted t) is refl) handed.part long w m k (ap text is ∙ same) counts (formed (Counted t) is).1 (told (counts_rise counts))
 
-  pub counted_refused : (f : Fault) → CountsStop p (at + 1) f → StepStops p at d K f
-  counted_refused f stop = let (lt, brace, again) = counted_here in counted_stops p at d r K waits lt f brace again stop
-
-module _ (p : List ℕ) (at d : ℕ) (r : Bool) (K : Mode → Frame → Type 0) (waits : (m : Mode) (fr : Frame) → K m fr → Waits r m) (s : Sign) (t : Bor (List ℕ)) (handed : Handed p at r s) (is : s ≡ Class t) where
-  class_here : (at < length p) × (get_or p at 0 ≡ 91)
-  class_here = (inside p at (sym (ap is_end is) ∙ handed.ended), head_is p at 91 _ (handed.part ∙ ap (λ l. l ++ drop (at + length (text s)) p) (ap text is)))
-
-  pub class_of : (K' : Mode → Frame → Type 0) (end : ℕ) (E : List Range → Type 0) → ClassHeard p (at + 1) end E
-      → ((w : List ℕ) (rs : List Range) → Members w rs → 0 < length rs → E rs → AtomKept K K' (one rs)) → Steps p at d K (end + 1) K'
-  class_of K' end E heard told = let (lt, bracket) = class_here in class_steps p at d r K waits lt K' end E bracket heard told
-
-  pub class_refused : (f : Fault) → ClassStops p (at + 1) f → StepStops p at d K f
-  class_refused f stop = let (lt, bracket) = class_here in sign_stops p at d r K waits f (class_stops p at lt r f bracket stop)
+-- a counted repeat that was handed out has its counts
+pub braced_of : (p : List ℕ) (at : ℕ) (r : Bool) (s : Sign) (t : Bor (List ℕ)) → Handed p at r s → s ≡ Counted t → (m : ℕ) × (n : ℕ) × Braced t.now m n
+braced_of p at r s t handed is = (subst (Formed r) is handed.formed).0

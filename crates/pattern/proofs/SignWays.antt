@@ -12,9 +12,9 @@ use Rattle.pattern.specs.Repeats.{CountsRead, CountsStop}
 use Rattle.pattern.proofs.Runs.{is_repeat, settled}
 use Rattle.pattern.proofs.Slices.{drop_is, moves, stops_inside, stops_at, stopped, split_at, slice_part, slice_is, part_length}
 
--- a byte with none of the twelve offices
-pub no_office : (b : ℕ) → (b ≡ 124 → ⊥) → (b ≡ 42 → ⊥) → (b ≡ 43 → ⊥) → (b ≡ 63 → ⊥) → (b ≡ 40 → ⊥) → (b ≡ 41 → ⊥) → (b ≡ 91 → ⊥) → (b ≡ 93 → ⊥) → (b ≡ 123 → ⊥) → (b ≡ 125 → ⊥) → (b ≡ 46 → ⊥) → (b ≡ 92 → ⊥) → kind b ≡ plain
-no_office b n1 n2 n3 n4 n5 n6 n7 n8 n9 n10 n11 n12 =
+-- a byte that is none of the twelve special characters
+pub not_special : (b : ℕ) → (b ≡ 124 → ⊥) → (b ≡ 42 → ⊥) → (b ≡ 43 → ⊥) → (b ≡ 63 → ⊥) → (b ≡ 40 → ⊥) → (b ≡ 41 → ⊥) → (b ≡ 91 → ⊥) → (b ≡ 93 → ⊥) → (b ≡ 123 → ⊥) → (b ≡ 125 → ⊥) → (b ≡ 46 → ⊥) → (b ≡ 92 → ⊥) → kind b ≡ plain
+not_special b n1 n2 n3 n4 n5 n6 n7 n8 n9 n10 n11 n12 =
     cond-false (eqb b 124) _ _ (ne_eqb b 124 n1)
     ∙ cond-false (eqb b 42) _ _ (ne_eqb b 42 n2)
     ∙ cond-false (eqb b 43) _ _ (ne_eqb b 43 n3)

@@ -10,7 +10,7 @@ use Rattle.pattern.specs.Beginnings.{LongestBeginning}
 use Rattle.pattern.specs.Meaning.{Lang, Empty, Union, Copies, Matches}
 use Rattle.pattern.specs.Automaton.{good, bad, verdict, start}
 use Rattle.pattern.specs.Refusals.{refused}
-use Rattle.pattern.specs.Reading.{Granted, Refused}
+use Rattle.pattern.specs.Reading.{ReadAs, Refused}
 use Rattle.pattern.specs.Examples.{Examples}
 use Rattle.pattern.proofs.Sounds.{Bytes, sound}
 use Rattle.pattern.proofs.Faults.{longest, not_written}
@@ -30,8 +30,8 @@ refused_at : (w : List ℕ) (n k : ℕ) → all_bytes w ≡ true → length w �
 refused_at w n k bytes short is place =
     inr (inl (short, not_written w n is, subst (LongestBeginning w) place (longest w n (bytes_by w bytes) is), refl))
 
-granted_as : (w : List ℕ) (e : Regex) (n : ℕ) → all_bytes w ≡ true → length w ≤ 256 → verdict start w ≡ good e → n ≡ places e → n ≤ 63 → Granted w n
-granted_as w e n bytes short is value few = record { expression = e; short = short; written = read_as w e bytes is; few = omega arith; value = value }
+reads : (w : List ℕ) (e : Regex) → all_bytes w ≡ true → length w ≤ 256 → verdict start w ≡ good e → places e ≤ 63 → ReadAs w e
+reads w e bytes short is few = record { short = short; written = read_as w e bytes is; few = few }
 
 abbrev letter : ℕ → Regex
 letter b = one (byte b)
@@ -46,6 +46,11 @@ taken b a (inr none) = absurd none
 not_empty : (b : ℕ) (w : List ℕ) → b ∷ w ≡ [] → ⊥
 not_empty b w e = omega (arith, ap length e)
 
+-- the empty pattern
+none_written : ReadAs [] empty
+unfolding verdict
+none_written = reads [] empty refl (omega arith) refl (omega arith)
+
 -- (abc)*
 abbrev abc : Regex
 abc = seq (seq (seq empty (letter 97)) (letter 98)) (letter 99)
@@ -53,9 +58,9 @@ abc = seq (seq (seq empty (letter 97)) (letter 98)) (letter 99)
 abbrev stars : Regex
 stars = seq empty (star abc)
 
-stars_read : Written 16 (codes "(abc)*") stars
+stars_read : ReadAs (codes "(abc)*") stars
 unfolding verdict
-stars_read = read_as (codes "(abc)*") stars refl refl
+stars_read = reads (codes "(abc)*") stars refl (omega arith) refl (omega arith)
 
 abc_in : Matches abc (codes "abc")
 abc_in = (codes "ab", codes "c", refl, (codes "a", codes "b", refl, ([], codes "a", refl, refl, (97, refl, takes 97)), (98, refl, takes 98)), (99, refl, takes 99))
@@ -78,9 +83,9 @@ stars_omit (u, v, is, none, (ws, all, whole)) = no_cab ws all (is ∙ (λ i. non
 abbrev plusses : Regex
 plusses = seq (seq empty (plus (one ((65, 66) ∷ [])))) (letter 67)
 
-plusses_read : Written 16 (codes "[A-B]+C") plusses
+plusses_read : ReadAs (codes "[A-B]+C") plusses
 unfolding verdict
-plusses_read = read_as (codes "[A-B]+C") plusses refl refl
+plusses_read = reads (codes "[A-B]+C") plusses refl (omega arith) refl (omega arith)
 
 plusses_yield : Matches plusses (codes "ABC")
 plusses_yield = (codes "AB", codes "C", refl, ([], codes "AB", refl, refl, (codes "A", codes "B", refl, (65, refl, inl (omega arith, omega arith)), (codes "B" ∷ [], ((66, refl, inl (omega arith, omega arith)), tt), refl))), (67, refl, takes 67))
@@ -96,9 +101,9 @@ either = alt (seq empty (letter 97)) (seq empty (letter 98))
 abbrev counts : Regex
 counts = seq empty (counted 2 3 either)
 
-counts_read : Written 16 (codes "(a|b){2,3}") counts
+counts_read : ReadAs (codes "(a|b){2,3}") counts
 unfolding verdict
-counts_read = read_as (codes "(a|b){2,3}") counts refl refl
+counts_read = reads (codes "(a|b){2,3}") counts refl (omega arith) refl (omega arith)
 
 counts_yield : Matches counts (codes "ab")
 counts_yield = (
@@ -132,9 +137,9 @@ counts_omit (u, v, is, none, (x, y, is2, front, back)) =
 abbrev none_of : Regex
 none_of = seq empty (counted 0 0 (letter 97))
 
-none_read : Written 16 (codes "a{0}") none_of
+none_read : ReadAs (codes "a{0}") none_of
 unfolding verdict
-none_read = read_as (codes "a{0}") none_of refl refl
+none_read = reads (codes "a{0}") none_of refl (omega arith) refl (omega arith)
 
 none_omits : Matches none_of (codes "a") → ⊥
 none_omits (u, v, is, none, (x, y, is2, front, back)) = omega (arith, ap length is, length-append u v, ap length none, ap length is2, length-append x y, ap length front, ap length back)
@@ -146,27 +151,36 @@ crowded : Refused (codes "a{32}a{32}") (refused TooManyPlaces 0)
 unfolding verdict
 crowded = inr (inr (omega arith, seq (seq empty (times 32)) (times 32), read_as (codes "a{32}a{32}") (seq (seq empty (times 32)) (times 32)) refl refl, omega arith, refl))
 
+infixr 10 ◌and◌
+abbrev ◌and◌ : {A B : Type 0} → A → B → A × B
+a and b = (a, b)
+
+abbrev full : Regex
+full = seq (seq empty (times 32)) (times 31)
+
 pub examples : Examples
 unfolding verdict
-examples = record {
-  empty_yields = (empty, read_as [] empty refl refl, refl);
-  empty_omits = (empty, read_as [] empty refl refl, not_empty _ _);
-  star_yields_none = (stars, stars_read, ([], [], refl, refl, ([], tt, refl)));
-  star_yields_two = (stars, stars_read, ([], codes "abcabc", refl, refl, (codes "abc" ∷ (codes "abc" ∷ []), (abc_in, (abc_in, tt)), refl)));
-  star_omits = (stars, stars_read, stars_omit);
-  plus_granted = granted_as (codes "[A-B]+C") plusses 3 refl (omega arith) refl refl (omega arith);
-  plus_yields = (plusses, plusses_read, plusses_yield);
-  plus_omits = (plusses, plusses_read, plusses_omit);
-  count_granted = granted_as (codes "(a|b){2,3}") counts 6 refl (omega arith) refl refl (omega arith);
-  count_yields = (counts, counts_read, counts_yield);
-  count_omits = (counts, counts_read, counts_omit);
-  none_granted = granted_as (codes "a{0}") none_of 0 refl (omega arith) refl refl (omega arith);
-  none_omits = (none_of, none_read, none_omits);
-  full_granted = granted_as (codes "a{32}a{31}") (seq (seq empty (times 32)) (times 31)) 63 refl (omega arith) refl refl (omega arith);
-  crowded = crowded;
-  most_below_least = refused_at (codes "a{2,1}") 1 5 refl (omega arith) refl refl;
-  range_falls = refused_at (codes "[b-a]") 2 3 refl (omega arith) refl refl;
-  count_too_large = refused_at (codes "a{33}") 2 3 refl (omega arith) refl refl;
-  repeat_twice = refused_at (codes "a**") 1 2 refl (omega arith) refl refl;
-  repeat_first = refused_at (codes "*a") 2 0 refl (omega arith) refl refl;
-}
+examples =
+    (empty, none_written, refl)
+    and (empty, none_written, refl)
+    and (empty, none_written, not_empty _ _)
+    and (stars, stars_read, refl)
+    and (stars, stars_read, ([], [], refl, refl, ([], tt, refl)))
+    and (stars, stars_read, ([], codes "abcabc", refl, refl, (codes "abc" ∷ (codes "abc" ∷ []), (abc_in, (abc_in, tt)), refl)))
+    and (stars, stars_read, stars_omit)
+    and (plusses, plusses_read, refl)
+    and (plusses, plusses_read, plusses_yield)
+    and (plusses, plusses_read, plusses_omit)
+    and (counts, counts_read, refl)
+    and (counts, counts_read, counts_yield)
+    and (counts, counts_read, counts_omit)
+    and (none_of, none_read, refl)
+    and (none_of, none_read, none_omits)
+    and (full, reads (codes "a{32}a{31}") full refl (omega arith) refl (omega arith), refl)
+    and crowded
+    and refused_at (codes "a{2,1}") 1 5 refl (omega arith) refl refl
+    and refused_at (codes "[b-a]") 2 3 refl (omega arith) refl refl
+    and refused_at (codes "a{33}") 2 3 refl (omega arith) refl refl
+    and refused_at (codes "a**") 1 2 refl (omega arith) refl refl
+    and refused_at (codes "*a") 2 0 refl (omega arith) refl refl
+    and tt

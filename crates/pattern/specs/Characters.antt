@@ -1,8 +1,8 @@
 -- What a byte of a pattern does, told by the character it is, outside a class and inside one. Assumes nothing.
 --
---   kind b       the office of b outside a class: one of the twelve, or plain
+--   kind b       which of the twelve special characters b is outside a class, or plain
 --   escapable b  b may stand after a backslash
---   class_kind b  the office of b inside a class
+--   class_kind b  what b does inside a class
 use Rattle.std.specs.Prelude.{ℕ, Bool, true, false, cond, ◌||◌, ◌==◌}
 
 pub data Kind : Type 0 where
@@ -14,24 +14,24 @@ kind b =
     (cond (b == 40) open' (cond (b == 41) close' (cond (b == 91) square (cond (b == 93) unsquare
     (cond (b == 123) brace (cond (b == 125) unbrace (cond (b == 46) dot (cond (b == 92) backslash plain)))))))))))
 
-abbrev pub has_office : Kind → Bool
-has_office bar = true
-has_office times = true
-has_office add = true
-has_office query = true
-has_office open' = true
-has_office close' = true
-has_office square = true
-has_office unsquare = true
-has_office brace = true
-has_office unbrace = true
-has_office dot = true
-has_office backslash = true
-has_office plain = false
+abbrev pub is_special : Kind → Bool
+is_special bar = true
+is_special times = true
+is_special add = true
+is_special query = true
+is_special open' = true
+is_special close' = true
+is_special square = true
+is_special unsquare = true
+is_special brace = true
+is_special unbrace = true
+is_special dot = true
+is_special backslash = true
+is_special plain = false
 
 -- the twelve, `-` and `^`
 abbrev pub escapable : ℕ → Bool
-escapable b = has_office (kind b) || (b == 45 || b == 94)
+escapable b = is_special (kind b) || (b == 45 || b == 94)
 
 -- `]`, `\`, `-`, the other two that must be escaped in a class, and what stands for itself
 pub data ClassKind : Type 0 where

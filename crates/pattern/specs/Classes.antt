@@ -2,7 +2,6 @@
 --
 --   Follows old b t new   what the class reader answers to the byte b, None where b cannot stand, and the state that it is left in
 --   ClassRead p at end    the inside of the class is p from `at` to `end`, where its bracket stands
---   ClassHeard .. E       its members satisfy E
 --   ClassStops            the fault has the place where the automaton stops
 use Rattle.std.specs.Prelude.{◌≡◌, ℕ, ◌+◌, ◌<◌, ◌≤◌, cond, Option, None, Some, List, [], ◌∷◌, length, take, drop, ◌==◌, ◌≢◌, slice_index, slice_index_or, slice_range}
 use Rattle.fault.specs.declared.Fault.{Fault}
@@ -57,10 +56,6 @@ pub record ClassRead (p : List ℕ) (at end : ℕ) : Type 0 where
   pub members : List Range
   pub some : 0 < length members
   pub written : Members (slice_range p at end) members
-
-pub record ClassHeard (p : List ℕ) (at end : ℕ) (E : List Range → Type 0) : Type 0 where
-  pub read : ClassRead p at end
-  pub holds : E read.members
 
 abbrev pub ClassStops : List ℕ → ℕ → Fault → Type 0
 ClassStops p at f = (fr : Frame) (d : ℕ) (ctx : List Frame) → Stops p f (verdict (state (in_class [] fresh) fr d ctx) (drop at p))

@@ -7,10 +7,10 @@ pub mod Beginnings
 pub mod Automaton
 pub mod Refusals
 pub mod Cursors
+pub mod Repeats
 pub mod Signs
 pub mod Drafts
 pub mod Reading
-pub mod Repeats
 pub mod Classes
 pub mod Walks
 pub mod Examples

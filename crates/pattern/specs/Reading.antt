@@ -1,6 +1,7 @@
 -- What reading a pattern answers: when it is granted, and how it is refused. Assumes nothing.
 --
---   Readable w      w is at most 256 bytes, well written, with at most 63 places
+--   ReadAs w e      w is at most 256 bytes and is written so that it is read as e, which has at most 63 places
+--   Readable w      w is read as some expression
 --   Granted w n     w is read, and has n places
 --   Refused w f     the first of the three refusals that w gives cause for
 --   Assembled S w a   w is well written, and a stands for what it is read as, where S says what a part stands for
@@ -13,15 +14,16 @@ use Rattle.pattern.specs.Grammar.{Written, WellWritten, deepest}
 use Rattle.pattern.specs.Beginnings.{LongestBeginning}
 use Rattle.pattern.specs.Refusals.{refused}
 
-pub record Granted (w : List ℕ) (n : ℕ) : Type 0 where
-  pub expression : Regex
+pub record ReadAs (w : List ℕ) (e : Regex) : Type 0 where
   pub short : length w ≤ 256
-  pub written : Written deepest w expression
-  pub few : places expression ≤ 63
-  pub value : n ≡ places expression
+  pub written : Written deepest w e
+  pub few : places e ≤ 63
 
 abbrev pub Readable : List ℕ → Type 0
-Readable w = (n : ℕ) × Granted w n
+Readable w = (e : Regex) × ReadAs w e
+
+abbrev pub Granted : List ℕ → ℕ → Type 0
+Granted w n = (e : Regex) × ReadAs w e × (n ≡ places e)
 
 abbrev pub TooLong : List ℕ → Fault → Type 0
 TooLong w f = (256 < length w) × (f ≡ refused PatternTooLong (length w))

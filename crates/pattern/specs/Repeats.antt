@@ -3,8 +3,9 @@
 --   NumberRead p at least n end   from `at` to `end` stands n, as the first or as the second count
 --   NumberStops, CountsStop       the fault has the place where the automaton stops
 --   NumberRefused, CountsRefused  and no count, or no counts, stand there
+--   Braced t m n                  t is a counted repeat from its brace on, of the counts m and n
 --   CountsRead p at m n end       from `at` to `end` stand the counts m and n, with the closing brace
-use Rattle.std.specs.Prelude.{◌≡◌, ℕ, ◌+◌, ◌<◌, ◌≤◌, false, List, ◌++◌, length, take, drop, decimal, slice_index}
+use Rattle.std.specs.Prelude.{◌≡◌, ℕ, ◌+◌, ◌<◌, ◌≤◌, false, List, ◌∷◌, ◌++◌, length, take, drop, decimal, slice_index}
 use Rattle.fault.specs.declared.Fault.{Fault}
 use Rattle.fault.specs.declared.Refusal.TheVariants.{BadlyWritten}
 use Rattle.pattern.specs.Expressions.{Regex}
@@ -23,6 +24,9 @@ pub record NumberRead (p : List ℕ) (at low n end : ℕ) : Type 0 where
 
 abbrev pub NumberStops : List ℕ → ℕ → ℕ → Fault → Type 0
 NumberStops p at low f = (s : Stage) → bound s ≡ low → (e : Regex) (fr : Frame) (d : ℕ) (ctx : List Frame) → Stops p f (verdict (state (in_count e (awaiting s)) fr d ctx) (drop at p))
+
+abbrev pub Braced : List ℕ → ℕ → ℕ → Type 0
+Braced t m n = (w : List ℕ) × (t ≡ 123 ∷ w) × Counts w m n
 
 pub record CountsRead (p : List ℕ) (at m n end : ℕ) : Type 0 where
   pub within : end ≤ length p

@@ -1,4 +1,4 @@
--- The signs of a pattern, as the parts of it that they came from. Assumes nothing.
+-- The signs of a pattern, as the parts of it that they came from. Only private functions cite it. Assumes nothing.
 --
 --   text s            the bytes of the sign s
 --   Formed repeatable s    s is a sign of its kind; a repeat only where one may stand
@@ -9,9 +9,10 @@ use Rattle.pattern.specs.declared.sign.Sign.{Sign}
 use Rattle.pattern.specs.declared.sign.Sign.TheVariants.{Plain, Escape, Any, Class, Bar, Star, Plus, Question, Counted, Open, Close, End}
 use Rattle.pattern.specs.Characters.{kind, plain, escapable}
 use Rattle.pattern.specs.Expressions.{Range, Regex}
-use Rattle.pattern.specs.Grammar.{Members, Counts, Atom, Repeated}
+use Rattle.pattern.specs.Grammar.{Members, Atom, Repeated}
 use Rattle.pattern.specs.Automaton.{Frame, Mode, ready, after, escape, in_class, in_count, state, verdict}
 use Rattle.pattern.specs.Refusals.{Stops}
+use Rattle.pattern.specs.Repeats.{Braced}
 
 -- a class is handed out as what stands between its brackets
 abbrev pub text : Sign → List ℕ
@@ -45,7 +46,7 @@ Formed repeatable (Bar t) = t.now ≡ 124 ∷ []
 Formed repeatable (Star t) = (t.now ≡ 42 ∷ []) × (repeatable ≡ true)
 Formed repeatable (Plus t) = (t.now ≡ 43 ∷ []) × (repeatable ≡ true)
 Formed repeatable (Question t) = (t.now ≡ 63 ∷ []) × (repeatable ≡ true)
-Formed repeatable (Counted t) = (w : List ℕ) × (m : ℕ) × (n : ℕ) × (t.now ≡ 123 ∷ w) × Counts w m n × (repeatable ≡ true)
+Formed repeatable (Counted t) = ((m : ℕ) × (n : ℕ) × Braced t.now m n) × (repeatable ≡ true)
 Formed repeatable (Open t) = t.now ≡ 40 ∷ []
 Formed repeatable (Close t) = t.now ≡ 41 ∷ []
 Formed repeatable End = Unit {0}

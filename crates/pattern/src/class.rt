@@ -1,12 +1,13 @@
 // The class, from after its bracket: its state and the next byte together decide.
-ghost use Rattle.std.specs.Prelude.{◌≡◌, List, ◌++◌, IfOk, MatchResult};
+ghost use Rattle.std.specs.Prelude.{◌≡◌, ◌<◌, List, ◌++◌, length, IfOk, MatchResult};
 ghost use Rattle.pattern.specs.Cursors.{OnePattern};
 ghost use Rattle.pattern.specs.Characters.{escapable, class_kind, kind_is_itself};
 ghost use Rattle.pattern.specs.Expressions.{Range};
-ghost use Rattle.pattern.specs.Classes.{Follows, done_by, ClassHeard, ClassRead, ClassRefused};
+ghost use Rattle.pattern.specs.Grammar.{Members};
+ghost use Rattle.pattern.specs.Classes.{Follows, done_by, ClassRead, ClassRefused};
 
 use crate::cursor::Cursor;
-use crate::gathering::{Gathering, Unseen};
+use crate::gathering::Gathering;
 use fault::Fault;
 
 // How far the member in hand has come; the byte is its first.
@@ -36,8 +37,8 @@ pub(crate) fn is_escapable(byte: u8) -> bool
     )
 }
 
-// What has no office inside a class. Both tests match their characters as literals, so neither takes
-// the set as an argument.
+// Inside a class five bytes do something; every other one stands for itself. Both tests match their
+// characters as literals, so neither takes the set as an argument.
 fn is_itself(byte: u8) -> bool
     ensures value { result ≡ kind_is_itself (class_kind byte) }
 {
@@ -94,29 +95,31 @@ impl Progress {
     }
 }
 
-// Where the bracket stands that ends the class, and its members.
-pub(crate) fn gather<T: Gathering>(from: Cursor) -> Result<(Cursor, T), Fault>
-    ensures cases { MatchResult result (λ o. ClassHeard from.entry.pattern.now from.entry.at o.0.at (T.Gathering.holds o.1)) (λ f. ClassRefused from.entry.pattern.now from.entry.at f) }
-    ensures same { IfOk result (λ o. OnePattern from.entry o.0) }
-{
-    let mut here = from;
-    let mut progress = Progress::Empty;
-    let mut found = T::none();
-    loop {
-        let byte = here.byte()?;
-        found = progress.finished(&found, byte);
-        match progress.take(byte).ok_or(here.refuse())? {
-            Taken::Inside => here = here.next(),
-            Taken::Ended => return Ok((here, found)),
-        }
-    }
-}
-
 // Where the bracket stands that ends the class.
 pub(crate) fn end(from: Cursor) -> Result<Cursor, Fault>
     ensures cases { MatchResult result (λ end. ClassRead from.entry.pattern.now from.entry.at end.at) (λ f. ClassRefused from.entry.pattern.now from.entry.at f) }
     ensures same { IfOk result (λ end. OnePattern from.entry end) }
 {
-    let (end, _) = gather::<Unseen>(from)?;
-    Ok(end)
+    let mut here = from;
+    let mut progress = Progress::Empty;
+    loop {
+        match progress.take(here.byte()?).ok_or(here.refuse())? {
+            Taken::Inside => here = here.next(),
+            Taken::Ended => return Ok(here),
+        }
+    }
+}
+
+// The members of a class, from what stands between its brackets. Each byte can stand where it is, so
+// what `take` answers is known; the bracket that follows them finishes the last member.
+pub(crate) fn members<T: Gathering>(inside: &[u8]) -> T
+    ensures value { (rs : List Range) → Members inside.now rs → 0 < length rs → T.Gathering.holds result rs }
+{
+    let mut member = Progress::Empty;
+    let mut found = T::none();
+    for byte in inside {
+        found = member.finished(&found, *byte);
+        member.take(*byte);
+    }
+    member.finished(&found, b']')
 }

@@ -11,5 +11,5 @@ pub mod gathering;
 mod reader;
 pub mod record;
 mod repeat;
-pub mod sign;
+mod sign;
 mod verdict;

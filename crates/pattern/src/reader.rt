@@ -49,15 +49,15 @@ fn step<'a, T: Assembly>(
         Sign::Plain(t) => Ok(Some((end, draft.atom(T::byte(t[0]))))),
         Sign::Escape(t) => Ok(Some((end, draft.atom(T::byte(t[1]))))),
         Sign::Any(_) => Ok(Some((end, draft.atom(T::any())))),
-        Sign::Class(_) => {
-            let (close, letters) = class::gather(from.next())?;
-            Ok(Some((close.next(), draft.atom(T::class(&letters)))))
+        Sign::Class(inside) => {
+            let letters = class::members(inside);
+            Ok(Some((end, draft.atom(T::class(&letters)))))
         }
         Sign::Star(_) => Ok(Some((end, draft.repeated(|atom| atom.star())))),
         Sign::Plus(_) => Ok(Some((end, draft.repeated(|atom| atom.plus())))),
         Sign::Question(_) => Ok(Some((end, draft.repeated(|atom| atom.optional())))),
-        Sign::Counted(_) => {
-            let ((least, most), end) = repeat::counts(from.next())?;
+        Sign::Counted(t) => {
+            let (least, most) = repeat::pair(t);
             Ok(Some((end, draft.repeated(|atom| atom.counted(least, most)))))
         }
     }

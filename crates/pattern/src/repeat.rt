@@ -2,7 +2,7 @@
 ghost use Rattle.std.specs.Prelude.{◌≡◌, ℕ, ◌+◌, ◌<◌, ◌≤◌, Decides, IfOk, MatchOption, MatchResult};
 ghost use Rattle.pattern.specs.Cursors.{OnePattern, Stands};
 ghost use Rattle.pattern.specs.Automaton.{count_kind, digit, count_can_begin, count_can_go_on};
-ghost use Rattle.pattern.specs.Repeats.{NumberRead, NumberRefused, CountsRead, CountsRefused};
+ghost use Rattle.pattern.specs.Repeats.{NumberRead, NumberRefused, CountsRead, CountsRefused, Braced};
 
 use crate::cursor::Cursor;
 use fault::Fault;
@@ -73,4 +73,17 @@ pub(crate) fn counts(from: Cursor) -> Result<((u8, u8), Cursor), Fault>
         }
         _ => Err(after.refuse()),
     }
+}
+
+// The least and the most count of a repeat that is well written, from its text.
+pub(crate) fn pair(text: &[u8]) -> (u8, u8)
+    requires written { (m : ℕ) × (n : ℕ) × Braced text.now m n }
+    ensures value { Braced text.now result.0 result.1 }
+{
+    let brace = Cursor {
+        pattern: text,
+        at: 0,
+    };
+    let (pair, _) = counts(brace.next()).unwrap();
+    pair
 }

@@ -89,7 +89,7 @@ fn escape(from: Cursor) -> Result<Sign, Fault>
 }
 
 // The sign at `at`, where `after` says that an atom stands before it that can still be repeated.
-pub fn sign_at(p: &[u8], at: usize, after: bool) -> Result<Sign, Fault>
+pub(crate) fn sign_at(p: &[u8], at: usize, after: bool) -> Result<Sign, Fault>
     ensures cases { MatchResult result (λ s. Handed p.now at after s) (λ f. SignRefused p.now at after f) }
 {
     if at >= p.len() {

@@ -6,7 +6,7 @@ use Rattle.pattern.specs.Automaton.{ready, opened}
 use Rattle.pattern.proofs.Drafting.{keeps_waits}
 use Rattle.pattern.proofs.Groups.{too_deep, inner_stops, unfinished, group_read}
 use Rattle.pattern.proofs.Walking.{sign_stops, group_stops, walk_stops, walk_all}
-use Rattle.pattern.proofs.SignSteps.{begun, plain_of, escape_of, any_of, class_of, class_refused, bar_of, star_of, opt_of, plus_of, counted_of, counted_refused, group_steps}
+use Rattle.pattern.proofs.SignSteps.{begun, plain_of, escape_of, any_of, class_of, bar_of, star_of, opt_of, plus_of, counted_of, braced_of, group_steps}
 use Rattle.pattern.proofs.reader.+alternatives_group_step.Goals as goal
 
 pub alternatives-loop-next-init : goal.alternatives-loop-next-init
@@ -59,13 +59,6 @@ step-returns-in_ok-end-in-Open-clause-cases g t c =
     let (lt, is) = begun _ _ _ _ _ 40 c.in_ok-sign.ensures.cases c.in-Open.is refl (λ f. f) in
     group_steps _ _ _ _ _ (keeps_waits g.T.Assembly.stands c.args.draft.now c.is_some.ensures) lt _ _ _ _ is c.in_ok-end-in-Open.ensures.cases c.atom.ensures.value
 
-pub step-returns-in_err-least-in-Counted-clause-cases : goal.step-returns-in_err-least-in-Counted-clause-cases
-step-returns-in_err-least-in-Counted-clause-cases g t c =
-    handed_on _ _ _ _ c.from_residual-in_err-least-in-Counted.ensures.1 (counted_refused _ _ _ _ _ (keeps_waits g.T.Assembly.stands c.args.draft.now c.is_some.ensures) _ _ c.in_ok-sign.ensures.cases c.in-Counted.is _ (rw (c.next-in-Counted.ensures.pattern, c.next-in-Counted.ensures.at) at c.in_err-least-in-Counted.ensures.cases).stops)
-
-pub step-returns-in_ok-least-in-Counted-clause-cases : goal.step-returns-in_ok-least-in-Counted-clause-cases
-step-returns-in_ok-least-in-Counted-clause-cases g t c = counted_of _ _ _ _ _ (keeps_waits g.T.Assembly.stands c.args.draft.now c.is_some.ensures) _ _ c.in_ok-sign.ensures.cases c.in-Counted.is _ _ _ _ (rw (c.next-in-Counted.ensures.pattern, c.next-in-Counted.ensures.at) at c.in_ok-least-in-Counted.ensures.cases) (λ le. c.repeated-in-Counted.ensures.value _ (λ x y f met st. search rules))
-
 pub step-returns-in-Bar-clause-cases : goal.step-returns-in-Bar-clause-cases
 step-returns-in-Bar-clause-cases g t c = rw c.skip-end.ensures.at (bar_of _ _ _ _ _ _ _ (keeps_waits g.T.Assembly.stands c.args.draft.now c.is_some.ensures) _ c.in_ok-sign.ensures.cases c.len.ensures.value _ c.in-Bar.is c.bar.ensures.value)
 
@@ -87,12 +80,11 @@ step-returns-in-Plus-clause-cases g t c = rw c.skip-end.ensures.at (plus_of _ _ 
 pub step-returns-in-Question-clause-cases : goal.step-returns-in-Question-clause-cases
 step-returns-in-Question-clause-cases g t c = rw c.skip-end.ensures.at (opt_of _ _ _ _ _ _ _ (keeps_waits g.T.Assembly.stands c.args.draft.now c.is_some.ensures) _ c.in_ok-sign.ensures.cases c.len.ensures.value _ c.in-Question.is (c.repeated-in-Question.ensures.value _ (λ x y f met st. search rules)))
 
-pub step-returns-in_err-close-in-Class-clause-cases : goal.step-returns-in_err-close-in-Class-clause-cases
-step-returns-in_err-close-in-Class-clause-cases g t c =
-    handed_on _ _ _ _ c.from_residual-in_err-close-in-Class.ensures.1 (class_refused _ _ _ _ _ (keeps_waits g.T.Assembly.stands c.args.draft.now c.is_some.ensures) _ _ c.in_ok-sign.ensures.cases c.in-Class.is _ (rw (c.next.ensures.pattern, c.next.ensures.at) at c.in_err-close-in-Class.ensures.cases).stops)
+pub step-returns-in-Class-clause-cases : goal.step-returns-in-Class-clause-cases
+step-returns-in-Class-clause-cases g t c = rw c.skip-end.ensures.at (class_of _ _ _ _ _ _ _ (keeps_waits g.T.Assembly.stands c.args.draft.now c.is_some.ensures) _ c.in_ok-sign.ensures.cases c.len.ensures.value _ c.in-Class.is (λ rs ms some. c.atom-in-Class.ensures.value _ (c.class.ensures.value _ rs ms some (c.members-letters.ensures.value rs ms some))))
 
-pub step-returns-in_ok-close-in-Class-clause-cases : goal.step-returns-in_ok-close-in-Class-clause-cases
-step-returns-in_ok-close-in-Class-clause-cases g t c =
-    rw c.next-in-Class.ensures.at
-    (class_of _ _ _ _ _ (keeps_waits g.T.Assembly.stands c.args.draft.now c.is_some.ensures) _ _ c.in_ok-sign.ensures.cases c.in-Class.is _ _ _ (rw (c.next.ensures.pattern, c.next.ensures.at) at c.in_ok-close-in-Class.ensures.cases)
-    (λ w rs ms some held. c.atom-in-Class.ensures.value _ (c.class.ensures.value w rs ms some held)))
+pub step-pair-least-requires : goal.step-pair-least-requires
+step-pair-least-requires g t c = record { written = braced_of _ _ _ _ _ c.in_ok-sign.ensures.cases c.in-Counted.is }
+
+pub step-returns-in-Counted-clause-cases : goal.step-returns-in-Counted-clause-cases
+step-returns-in-Counted-clause-cases g t c = rw c.skip-end.ensures.at (counted_of _ _ _ _ _ _ _ (keeps_waits g.T.Assembly.stands c.args.draft.now c.is_some.ensures) _ c.in_ok-sign.ensures.cases c.len.ensures.value _ c.in-Counted.is _ _ c.pair-least.ensures.value (λ le. c.repeated-in-Counted.ensures.value _ (λ x y f met st. search rules)))

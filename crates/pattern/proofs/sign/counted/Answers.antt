@@ -25,7 +25,7 @@ returns c =
     let read = rw (c.next.ensures.pattern, c.next.ensures.at) at c.in_ok-end.ensures.cases in
     record {
       cases = record {
-        formed = (read.words, _, _, c.until.ensures.value ∙ counted_is _ _ lt _ _ _ is read, read.counted, c.if-not-after.false);
+        formed = ((_, _, (read.words, c.until.ensures.value ∙ counted_is _ _ lt _ _ _ is read, read.counted)), c.if-not-after.false);
         part = rw c.until.ensures.value (slice_part _ _ _ (omega (arith, read.long)) read.within);
         ended = sym (lt-leb _ _ lt);
       };

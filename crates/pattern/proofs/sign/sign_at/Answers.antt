@@ -1,6 +1,6 @@
 use Rattle.std.proofs.Common.{get_or, refl, arith}
 use Rattle.std.proofs.lemmas.Bool.{false≢true}
-use Rattle.pattern.proofs.SignWays.{one_byte, no_office}
+use Rattle.pattern.proofs.SignWays.{one_byte, not_special}
 use Rattle.pattern.proofs.OneByteSigns.{one_handed, no_sign, repeat_handed}
 use Rattle.pattern.proofs.sign.sign_at.Goals as goal
 
@@ -22,5 +22,5 @@ returns-in-63 c = record { cases = repeat_handed _ _ 63 c.if-at-p.false c.in-63.
 pub returns-in_default : goal.returns-in_default
 returns-in_default c = record {
   cases = one_handed _ _ _ c.if-at-p.false refl _ _
-      (_, one_byte _ _ c.if-at-p.false _ refl, no_office (get_or c.args.p.now c.args.at 0) (omega arith) (omega arith) (omega arith) (omega arith) (omega arith) (omega arith) (omega arith) (omega arith) (omega arith) (omega arith) (omega arith) (omega arith)) refl refl;
+      (_, one_byte _ _ c.if-at-p.false _ refl, not_special (get_or c.args.p.now c.args.at 0) (omega arith) (omega arith) (omega arith) (omega arith) (omega arith) (omega arith) (omega arith) (omega arith) (omega arith) (omega arith) (omega arith) (omega arith)) refl refl;
 }
