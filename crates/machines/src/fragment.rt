@@ -3,7 +3,7 @@
 ghost use Rattle.std.specs.Prelude.{◌≤◌};
 ghost use Rattle.machines.specs.Fragments.{Part};
 
-use crate::gathered::ClassLetters;
+use crate::class_letters::ClassLetters;
 use crate::letters::Letters;
 use crate::tables::Tables;
 use pattern::assembly::Assembly;

@@ -42,7 +42,8 @@ impl Folding for PlaceMachine {
         let takes = self.tables.takes[usize::from(c)];
         // Not by `Relation::then`: the byte's mask would then need a pass of its own, which is no plainer.
         Relation {
-            rows: array::from_fn(|q| masks::gather(&self.tables.follow, at.rows[q]) & takes),
+            rows: array::from_fn(|q| masks::gather(&self.tables.follow, at.row(PlaceNo::nth(q)))
+                & takes),
         }
     }
 

@@ -18,13 +18,13 @@ impl Relation {
         ensures value { result ≡ identity_relation }
     {
         Relation {
-            rows: array::from_fn(|q| 1 << q),
+            rows: array::from_fn(|q| masks::single(PlaceNo::nth(q))),
         }
     }
 
     // The states that `of` leads to.
     pub fn row(&self, of: PlaceNo) -> u64
-        ensures value { result ≡ row_of self.now of.number }
+        ensures value { result ≡ row_of self.now of }
     {
         self.rows[usize::from(of)]
     }
@@ -36,7 +36,7 @@ impl Relation {
         ensures associative { Associative }
     {
         Relation {
-            rows: array::from_fn(|q| masks::gather(&second.rows, self.rows[q])),
+            rows: array::from_fn(|q| masks::gather(&second.rows, self.row(PlaceNo::nth(q)))),
         }
     }
 }
