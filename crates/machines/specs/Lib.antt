@@ -1,4 +1,5 @@
 pub mod Building
+pub mod Built
 pub mod ClassLetters
 pub mod Fragments
 pub mod Laws

@@ -1,6 +1,6 @@
 // Relations between the states of a machine: what a text does to every state at once.
 ghost use Rattle.std.specs.Prelude.{◌≡◌};
-ghost use Rattle.machines.specs.Relations.{composed, identity as identity_relation, row as row_of, Composes, Associative};
+ghost use Rattle.machines.specs.Relations.{composed, identity as identity_relation, row as row_of, Composes};
 
 use crate::masks;
 use crate::placeno::PlaceNo;
@@ -33,7 +33,6 @@ impl Relation {
     pub fn then(&self, second: &Relation) -> Relation
         ensures value { result ≡ composed self.now second.now }
         ensures members { Composes self.now second.now result }
-        ensures associative { Associative }
     {
         Relation {
             rows: array::from_fn(|q| masks::gather(&second.rows, self.row(PlaceNo::nth(q)))),
