@@ -10,7 +10,7 @@ use Rattle.machines.specs.Fragments.{Represents, Part}
 use Rattle.machines.specs.Letters.{LettersOf, SomeLetters}
 use Rattle.machines.specs.Masks.{Has}
 use Rattle.machines.specs.Making.{Changes, Joins}
-use Rattle.machines.specs.PlaceTables.{Made}
+use Rattle.machines.specs.PlaceTables.{TablesOf, Made}
 use Rattle.machines.specs.Soundness.{Sane, TakesSome}
 use Rattle.machines.specs.Spellings.{Place, spread, Spelling, SpellingFrom}
 use Rattle.machines.proofs.Later.{later_tables}
@@ -109,8 +109,12 @@ same_part e e' t n sane same written x = record {
 }
 
 -- a part with at most 63 places makes a machine
+
+pub few_tables : (e : Regex) (t : Tables) (n : ℕ) → n ≤ 63 → Represents e t n → TablesOf e t
+few_tables e t n le x = x.tables (let c = x.count in omega arith)
+
 pub part_made : (t : Tables) (n : ℕ) → n ≤ 63 → Part t n → Made t
-part_made t n le part = ∥∥₁_map part (λ x. (x.0, x.1.sane, x.1.tables (let c = x.1.count in omega arith)))
+part_made t n le part = ∥∥₁_map part (λ x. (x.0, x.1.sane, few_tables x.0 t n le x.1))
 
 -- what operations make, from references to the tables too
 

@@ -1,6 +1,7 @@
 pub mod Building
+pub mod Built
+pub mod ClassLetters
 pub mod Fragments
-pub mod Gathered
 pub mod Laws
 pub mod Letters
 pub mod Making

@@ -7,7 +7,8 @@
 --   union rows set n   the union of the rows of those members of the set that are below n
 --   gathered rows set  the union of the rows of the members of the set
 --   Gathered rows set r   r is that union, bit by bit
-use Rattle.std.specs.Prelude.{◌≡◌, ℕ, zero, suc, ◌-◌, ◌<◌, Bool, true, cond, ◌↔◌, List, ◌==◌, bit_or, slice_index}
+--   Lowest set q       q is the first member of the set
+use Rattle.std.specs.Prelude.{◌≡◌, ℕ, zero, suc, ◌-◌, ◌<◌, ◌≤◌, Bool, true, cond, ◌↔◌, List, ◌==◌, bit_or, slice_index}
 use Rattle.std.specs.Int.{bit_at}
 
 abbrev pub Has : ℕ → ℕ → Type 0
@@ -31,3 +32,7 @@ gathered rows set = union rows set 64
 
 abbrev pub Gathered : List ℕ → ℕ → ℕ → Type 0
 Gathered rows set r = (p : ℕ) → Has r p ↔ ((q : ℕ) × (q < 64) × Has set q × Has (slice_index rows q) p)
+
+pub record Lowest (set q : ℕ) : Type 0 where
+  pub member : Has set q
+  pub first : (p : ℕ) → Has set p → q ≤ p

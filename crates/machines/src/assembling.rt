@@ -1,22 +1,16 @@
 // The machine of a pattern that was read.
-ghost use Rattle.pattern.specs.Expressions.{Regex};
-ghost use Rattle.pattern.specs.Grammar.{Written, deepest};
-ghost use Rattle.machines.specs.Laws.{SpelledExactly, EachPlaceLives, MeansExactly, ReachesExactly, JoinsExactly, Neutral};
-ghost use Rattle.machines.specs.PlaceTables.{TablesOf};
-ghost use Rattle.machines.specs.Soundness.{Sane};
+ghost use Rattle.machines.specs.Built.{Built};
+ghost use Rattle.machines.specs.Laws.{PlaceLaws};
 
 use crate::fragment::Fragment;
 use crate::place::PlaceMachine;
+use folding::fold::{Folding, Judging};
 use pattern::record::Pattern;
 
+// The laws are those of all place machines, and ask nothing of this one.
 pub fn build(pattern: &Pattern) -> PlaceMachine
-    ensures tables { (e : Regex) → Written deepest pattern.now e → Sane e × TablesOf e result.tables }
-    ensures means { MeansExactly result.tables }
-    ensures reaches { ReachesExactly result.tables }
-    ensures joins { JoinsExactly result.tables }
-    ensures neutral { Neutral result.tables }
-    ensures spelled { SpelledExactly }
-    ensures places { EachPlaceLives }
+    ensures built { Built pattern.now result.tables (⟦<PlaceMachine as Judging>⟧.means result) (⟦<PlaceMachine as Folding>⟧.leg result) }
+    ensures laws { PlaceLaws }
 {
     // The pattern was read, so it has at most 63 places.
     let whole = pattern.assemble::<Fragment>().part.unwrap();

@@ -3,7 +3,8 @@ ghost use Rattle.std.specs.Prelude.{◌≡◌, ℕ, ◌<◌, ◌⊎◌, ◌↔�
 ghost use Rattle.machines.specs.Building.{TablesBy, LaterRow, Later, ThenRow, Then, Either, LoopRow, Loops, Passes};
 ghost use Rattle.machines.specs.Masks.{Has, Members};
 
-use crate::masks::{has, later, only, places};
+use crate::masks::{has, later, only, places, single};
+use crate::placeno::PlaceNo;
 use crate::tables::Tables;
 use std::array;
 
@@ -16,8 +17,6 @@ pub(crate) fn both<const N: usize>(a: &[u64; N], b: &[u64; N]) -> [u64; N]
     array::from_fn(|k| a[k] | b[k])
 }
 
-// A row's number `q` is what `from_fn` hands out, and `by` is a count of places: a type that holds
-// their bound would be made and taken apart again at each row, which is no plainer.
 impl Tables {
     // No place: only the empty text.
     pub(crate) fn none() -> Tables
@@ -26,7 +25,7 @@ impl Tables {
         Tables {
             follow: [0; 64],
             takes: [0; 256],
-            accepts: 1,
+            accepts: single(PlaceNo::start()),
         }
     }
 
@@ -34,21 +33,24 @@ impl Tables {
     pub(crate) fn place(takes: [u64; 256]) -> Tables
         ensures members { TablesBy result (λ q p. (q ≡ 0) × (p ≡ 1)) (λ c p. Has (slice_index takes c) p) (λ p. p ≡ 1) }
     {
+        let place = single(PlaceNo::nth(1));
         let mut follow = [0; 64];
-        follow[0] = 2;
+        follow[usize::from(PlaceNo::start())] = place;
         Tables {
             follow,
             takes,
-            accepts: 2,
+            accepts: place,
         }
     }
 
-    fn later_row(&self, by: usize, q: usize) -> u64
-        requires within { (by < 64) × (q < 64) }
+    fn later_row(&self, by: usize, q: PlaceNo) -> u64
+        requires within { by < 64 }
         ensures members { Members result (LaterRow by self.now q) }
     {
-        let from = q.saturating_sub(by);
-        only(later(self.follow[from], by), (q == 0) | (q > by))
+        match q.earlier(by) {
+            Some(from) => later(self.following(from), by),
+            None => 0,
+        }
     }
 
     // The same places, each `by` numbers later.
@@ -56,28 +58,28 @@ impl Tables {
         requires within { by < 64 }
         ensures members { Later by self.now result }
     {
+        let start = PlaceNo::start();
         Tables {
-            follow: array::from_fn(|q| self.later_row(by, q)),
+            follow: array::from_fn(|q| self.later_row(by, PlaceNo::nth(q))),
             takes: array::from_fn(|c| later(self.takes[c], by)),
-            accepts: only(1, has(self.accepts, 0)) | later(self.accepts, by),
+            accepts: only(single(start), has(self.accepts, start)) | later(self.accepts, by),
         }
     }
 
-    fn then_row(&self, second: &Tables, q: usize) -> u64
-        requires within { q < 64 }
+    fn then_row(&self, second: &Tables, q: PlaceNo) -> u64
         ensures members { Members result (ThenRow self.now second.now q) }
     {
-        let across = only(second.follow[0], has(self.accepts, q));
-        self.follow[q] | (across | only(second.follow[q], q > 0))
+        let across = only(second.following(PlaceNo::start()), has(self.accepts, q));
+        self.following(q) | (across | only(second.following(q), q != PlaceNo::start()))
     }
 
     // This and then `second`, whose places come later.
     pub(crate) fn then(&self, second: &Tables) -> Tables
         ensures members { Then self.now second.now result }
     {
-        let own = only(self.accepts, has(second.accepts, 0));
+        let own = only(self.accepts, has(second.accepts, PlaceNo::start()));
         Tables {
-            follow: array::from_fn(|q| self.then_row(second, q)),
+            follow: array::from_fn(|q| self.then_row(second, PlaceNo::nth(q))),
             takes: both(&self.takes, &second.takes),
             accepts: places(second.accepts) | own,
         }
@@ -94,11 +96,10 @@ impl Tables {
         }
     }
 
-    fn looped_row(&self, q: usize) -> u64
-        requires within { q < 64 }
+    fn looped_row(&self, q: PlaceNo) -> u64
         ensures members { Members result (LoopRow self.now q) }
     {
-        self.follow[q] | only(self.follow[0], has(self.accepts, q))
+        self.following(q) | only(self.following(PlaceNo::start()), has(self.accepts, q))
     }
 
     // This any number of times.
@@ -106,9 +107,9 @@ impl Tables {
         ensures members { Loops self.now result }
     {
         Tables {
-            follow: array::from_fn(|q| self.looped_row(q)),
+            follow: array::from_fn(|q| self.looped_row(PlaceNo::nth(q))),
             takes: self.takes,
-            accepts: self.accepts | 1,
+            accepts: self.accepts | single(PlaceNo::start()),
         }
     }
 
@@ -119,7 +120,7 @@ impl Tables {
         Tables {
             follow: self.follow,
             takes: self.takes,
-            accepts: self.accepts | 1,
+            accepts: self.accepts | single(PlaceNo::start()),
         }
     }
 }

@@ -3,10 +3,12 @@
 ghost use Rattle.std.specs.Prelude.{◌≤◌};
 ghost use Rattle.machines.specs.Fragments.{Part};
 
-use crate::gathered::ClassLetters;
+use crate::class_letters::ClassLetters;
 use crate::letters::Letters;
 use crate::tables::Tables;
 use pattern::assembly::Assembly;
+
+const MOST_PLACES: u8 = 63;
 
 // The tables of the part alone, its places numbered from 1. The count is no length of theirs: they
 // have a row for each state and byte that there can be.
@@ -72,7 +74,7 @@ impl Fragment {
         let own = self.part.as_ref()?;
         let other = second.part.as_ref()?;
         let count = own.count + other.count;
-        if count > 63 {
+        if count > MOST_PLACES {
             return None;
         }
         Some(Numbered {

@@ -5,7 +5,8 @@ ghost use Rattle.machines.specs.Letters.{LettersOf, SomeLetters, Widens};
 ghost use Rattle.machines.specs.Masks.{Has};
 
 use crate::combine::both;
-use crate::masks::only;
+use crate::masks::{only, single};
+use crate::placeno::PlaceNo;
 use std::array;
 
 // Place 1 takes the bytes from `low` to `high`.
@@ -13,7 +14,8 @@ fn between(low: u8, high: u8) -> [u64; 256]
     ensures members { (c p : ℕ) → c < 256 → Has (slice_index result c) p ↔ ((p ≡ 1) × ((low ≤ c) × (c ≤ high))) }
 {
     let (low, high) = (usize::from(low), usize::from(high));
-    array::from_fn(|c| only(2, (low <= c) & (c <= high)))
+    let place = single(PlaceNo::nth(1));
+    array::from_fn(|c| only(place, (low <= c) & (c <= high)))
 }
 
 // Row c has place 1 if byte c is taken: at least one is.

@@ -2,9 +2,9 @@
 #![tactic(auto)]
 
 pub mod assembling;
+pub mod class_letters;
 mod combine;
 pub mod fragment;
-pub mod gathered;
 pub mod letters;
 pub mod masks;
 pub mod place;

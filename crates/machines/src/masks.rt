@@ -1,6 +1,8 @@
 // Sets of states as masks, bit q standing for state q.
-ghost use Rattle.std.specs.Prelude.{◌≡◌, ◌<◌, ◌≤◌, Decides};
-ghost use Rattle.machines.specs.Masks.{Has, Members, Only, After, gathered, Gathered};
+ghost use Rattle.std.specs.Prelude.{◌≡◌, ℕ, ◌<◌, ◌≤◌, ◌≢◌, ◌^◌, Decides};
+ghost use Rattle.machines.specs.Masks.{Has, Members, Only, After, Lowest, gathered, Gathered};
+
+use crate::placeno::PlaceNo;
 
 // The union of the rows of the members of `set`, one turn to a member.
 pub(crate) fn gather(rows: &[u64; 64], set: u64) -> u64
@@ -10,19 +12,34 @@ pub(crate) fn gather(rows: &[u64; 64], set: u64) -> u64
     let mut all = 0;
     let mut rest = set;
     while rest != 0 {
-        let q = rest.trailing_zeros() as usize;
-        all |= rows[q];
-        rest ^= 1 << q;
+        let q = lowest(rest);
+        all |= rows[usize::from(q)];
+        rest ^= single(q);
     }
     all
 }
 
-// Whether state `q` is in the set. Here and below a number is a plain one, as the rows' are.
-pub(crate) fn has(set: u64, q: usize) -> bool
-    requires within { q < 64 }
+// The first state of a set that is not empty.
+fn lowest(set: u64) -> PlaceNo
+    requires some { set ≢ 0 }
+    ensures value { Lowest set result }
+{
+    PlaceNo::nth(set.trailing_zeros() as usize)
+}
+
+// The set of this state alone.
+pub(crate) fn single(q: PlaceNo) -> u64
+    ensures value { result ≡ 2 ^ q }
+    ensures members { Members result (λ p. p ≡ q) }
+{
+    1 << usize::from(q)
+}
+
+// Whether the state is in the set.
+pub(crate) fn has(set: u64, q: PlaceNo) -> bool
     ensures cases { Decides result (Has set q) }
 {
-    (set >> q) & 1 == 1
+    (set >> usize::from(q)) & 1 == 1
 }
 
 // The set, or the empty one.

@@ -2,7 +2,8 @@
 // the relation between states that the text makes.
 ghost use Rattle.std.specs.Prelude.{◌≡◌};
 ghost use Rattle.machines.specs.PlaceTables.{Made, Meant};
-ghost use Rattle.machines.specs.Runs.{leg as leg_of};
+ghost use Rattle.machines.specs.Relations.{row as row_of};
+ghost use Rattle.machines.specs.Runs.{leg as leg_of, moved};
 ghost use Rattle.machines.specs.Shown.Machine.{made_inhabited};
 
 use crate::fragment::Numbered;
@@ -27,6 +28,13 @@ impl PlaceMachine {
             tables: whole.tables,
         }
     }
+
+    // Not by `Relation::then`: the byte's mask would then need a pass of its own, which is no plainer.
+    fn step_row(&self, at: &Relation, c: u8, q: PlaceNo) -> u64
+        ensures value { result ≡ moved self.now.tables (row_of at.now q) c }
+    {
+        masks::gather(&self.tables.follow, at.row(q)) & self.tables.takes[usize::from(c)]
+    }
 }
 
 impl Folding for PlaceMachine {
@@ -39,10 +47,8 @@ impl Folding for PlaceMachine {
     }
 
     fn step(&self, at: &Relation, c: u8) -> Relation {
-        let takes = self.tables.takes[usize::from(c)];
-        // Not by `Relation::then`: the byte's mask would then need a pass of its own, which is no plainer.
         Relation {
-            rows: array::from_fn(|q| masks::gather(&self.tables.follow, at.rows[q]) & takes),
+            rows: array::from_fn(|q| self.step_row(at, c, PlaceNo::nth(q))),
         }
     }
 

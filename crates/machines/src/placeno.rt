@@ -1,43 +1,59 @@
-// The numbers of places, a type of their own: no other machine's number is taken for one.
-ghost use Rattle.std.specs.Prelude.{◌≡◌, ◌<◌, ◌≤◌, MatchResult};
+// The numbers of the place machine's states, a type of their own: no other machine's number is taken
+// for one.
+ghost use Rattle.std.specs.Prelude.{◌≡◌, ◌-◌, ◌<◌, ◌≤◌, ◌⊎◌, MatchOption};
+
+use std::marker::Model;
 
 // A place's number, or 0 for the state before all places.
 #[derive(Clone, Copy, PartialEq, Eq, Debug)]
 pub struct PlaceNo {
-    number: u8,
-    ghost small: { number < 64 },
+    number: usize,
 }
 
-// The number was 64 or more, which no place has.
-#[derive(Clone, Copy, PartialEq, Eq, Debug)]
-pub struct NotAPlace;
+impl Model for PlaceNo {
+    ghost use Rattle.std.specs.Prelude.{ℕ, ◌<◌};
+
+    ghost Value = { ℕ };
+
+    ghost view = { λ p. p.number };
+
+    ghost invariant = { λ p. p.number < 64 };
+
+    ghost inverse = { λ n. record { number = n } };
+}
 
 impl PlaceNo {
     pub fn start() -> PlaceNo
-        ensures value { result.number ≡ 0 }
+        ensures value { result ≡ 0 }
     {
         PlaceNo { number: 0 }
     }
-}
 
-impl TryFrom<u8> for PlaceNo {
-    type Error = NotAPlace;
+    // The state whose row has this index.
+    pub(crate) fn nth(index: usize) -> PlaceNo
+        requires within { index < 64 }
+        ensures value { result ≡ index }
+    {
+        PlaceNo { number: index }
+    }
 
-    ghost try_from_gives = { λ number r. MatchResult r (λ p. p.number ≡ number) (λ _. 64 ≤ number) };
-
-    fn try_from(number: u8) -> Result<PlaceNo, NotAPlace> {
-        if number < 64 {
-            Ok(PlaceNo { number })
-        } else {
-            Err(NotAPlace)
+    // The state that has this number once every place has moved `by` numbers on: the start stays
+    // where it is, and the first `by` numbers are left to other places.
+    pub(crate) fn earlier(self, by: usize) -> Option<PlaceNo>
+        ensures value { MatchOption result ((1 ≤ self) × (self ≤ by)) (λ q. ((self ≡ 0) ⊎ (by < self)) × (q ≡ self - by)) }
+    {
+        match self.number {
+            0 => Some(self),
+            n if n > by => Some(PlaceNo { number: n - by }),
+            _ => None,
         }
     }
 }
 
 impl From<PlaceNo> for usize {
-    ghost from_gives = { λ place index. (index ≡ place.number) × (index < 64) };
+    ghost from_gives = { λ place index. (index ≡ place) × (index < 64) };
 
     fn from(place: PlaceNo) -> usize {
-        usize::from(place.number)
+        place.number
     }
 }

@@ -1,6 +1,7 @@
 // Relations between the states of a machine: what a text does to every state at once.
 ghost use Rattle.std.specs.Prelude.{◌≡◌};
-ghost use Rattle.machines.specs.Relations.{composed, identity as identity_relation, row as row_of, Composes, Associative};
+ghost use Rattle.machines.specs.Masks.{gathered};
+ghost use Rattle.machines.specs.Relations.{composed, identity as identity_relation, row as row_of, Composes};
 
 use crate::masks;
 use crate::placeno::PlaceNo;
@@ -18,25 +19,30 @@ impl Relation {
         ensures value { result ≡ identity_relation }
     {
         Relation {
-            rows: array::from_fn(|q| 1 << q),
+            rows: array::from_fn(|q| masks::single(PlaceNo::nth(q))),
         }
     }
 
     // The states that `of` leads to.
     pub fn row(&self, of: PlaceNo) -> u64
-        ensures value { result ≡ row_of self.now of.number }
+        ensures value { result ≡ row_of self.now of }
     {
         self.rows[usize::from(of)]
+    }
+
+    fn then_row(&self, second: &Relation, q: PlaceNo) -> u64
+        ensures value { result ≡ gathered second.now.rows (row_of self.now q) }
+    {
+        masks::gather(&second.rows, self.row(q))
     }
 
     // First this one, then `second`.
     pub fn then(&self, second: &Relation) -> Relation
         ensures value { result ≡ composed self.now second.now }
         ensures members { Composes self.now second.now result }
-        ensures associative { Associative }
     {
         Relation {
-            rows: array::from_fn(|q| masks::gather(&second.rows, self.rows[q])),
+            rows: array::from_fn(|q| self.then_row(second, PlaceNo::nth(q))),
         }
     }
 }

@@ -2,13 +2,12 @@
 use Rattle.std.specs.Prelude.{◌≡◌, ℕ, zero, suc, ◌^◌, ◌<◌, cond, ◌⊎◌, ◌↔◌, List, ◌==◌, ◌≢◌, bit_and, bit_or, slice_index}
 use Rattle.std.proofs.Common.{sym, subst, inl, inr, ⊎_elim, arith}
 use Rattle.std.specs.Int.Bits.{bit_xor, xor_add_and}
-use Rattle.std.specs.Int.{bit_at, w64}
-use Rattle.std.specs.Int.Count.{count_trailing_zeros}
-use Rattle.std.proofs.lemmas.Nat.Bits.{bit_at_xor, bit_at-trailing_zeros}
+use Rattle.std.specs.Int.{bit_at}
+use Rattle.std.proofs.lemmas.Nat.Bits.{bit_at_xor}
 use Rattle.std.proofs.lemmas.Nat.{pow_pos}
 use Rattle.std.proofs.lemmas.Bool.{cases_lt, cases_eq, eq-eqb, ne_eqb, cond-true, cond-false}
 use Rattle.machines.specs.Masks.{Has, union, gathered, Gathered}
-use Rattle.machines.specs.Shown.Members.{zero_has, has_cases, or_has, has_or_left, has_or_right, and_has, has_and, has_power, power_has, same_masks}
+use Rattle.machines.specs.Shown.Members.{zero_has, has_below, has_cases, or_has, has_or_left, has_or_right, and_has, has_and, has_power, power_has, same_masks}
 
 abbrev Among : List ℕ → ℕ → ℕ → ℕ → Type 0
 Among rows set n p = (q : ℕ) × (q < n) × Has set q × Has (slice_index rows q) p
@@ -46,14 +45,6 @@ gathered_members rows set p = (union_has rows set 64 p, has_union rows set 64 p)
 pub gathered_by : (rows : List ℕ) (set r : ℕ) → r ≡ gathered rows set → Gathered rows set r
 gathered_by rows set r e = subst (Gathered rows set) (sym e) (gathered_members rows set)
 
--- the lowest member of a set that is not empty
-
-lowest : (n : ℕ) → n < 2 ^ 64 → (n ≢ 0) → (count_trailing_zeros 64 n < 64) × Has n (count_trailing_zeros 64 n)
-lowest n lt some = let x = bit_at-trailing_zeros w64 n (omega arith) lt in (x.0, x.1)
-
-pub lowest_low : (n q : ℕ) → q ≡ count_trailing_zeros 64 n → n < 2 ^ 64 → (n ≢ 0) → q < 64
-lowest_low n q is lt some = subst (λ x. x < 64) (sym is) (lowest n lt some).0
-
 -- a set without one of its members
 
 off_has : (n q k : ℕ) → Has n q → Has (bit_xor n (2 ^ q)) k → Has n k × (k ≢ q)
@@ -86,8 +77,8 @@ left_all rows set rest all none left =
       λ h. ⊎_elim (λ x. x) (λ x. let (q, lt, m, r) = (gathered_members rows rest p).0 x in absurd (zero_has q (subst (λ y. Has y q) none m))) ((left.sum p).1 h),
     ))
 
-pub left_more : (rows : List ℕ) (set rest all q : ℕ) → q ≡ count_trailing_zeros 64 rest → (rest ≢ 0) → Left rows set rest all → Left rows set (bit_xor rest (2 ^ q)) (bit_or all (slice_index rows q)) × (bit_xor rest (2 ^ q) < rest)
-left_more rows set rest all q is some left = (
+pub left_more : (rows : List ℕ) (set rest all q : ℕ) → Has rest q → Left rows set rest all → Left rows set (bit_xor rest (2 ^ q)) (bit_or all (slice_index rows q)) × (bit_xor rest (2 ^ q) < rest)
+left_more rows set rest all q member left = (
   record {
     small = let s = left.small in let o = lowest_off rest q member in omega arith;
     sum = λ p. (
@@ -109,8 +100,5 @@ left_more rows set rest all q is some left = (
   lowest_off rest q member,
 )
   where
-    member : Has rest q
-    member = subst (Has rest) (sym is) (lowest rest left.small some).1
-
     low : q < 64
-    low = lowest_low rest q is left.small some
+    low = has_below rest 64 q left.small member

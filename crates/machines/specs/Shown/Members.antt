@@ -66,9 +66,6 @@ same_masks a b same = same_from_bits a b (λ q. same_bit a b q (same q))
 pub or_members : (a b p : ℕ) → Has (bit_or a b) p ↔ (Has a p ⊎ Has b p)
 or_members a b p = (or_has a b p, ⊎_elim (has_or_left a b p) (has_or_right a b p))
 
--- state 0 alone, and place 1 alone
-pub zeroth_members : (p : ℕ) → Has 1 p ↔ (p ≡ 0)
-zeroth_members p = (power_has 0 p, λ e. subst (Has 1) (sym e) (has_power 0))
-
-pub place_one_members : (p : ℕ) → Has 2 p ↔ (p ≡ 1)
-place_one_members p = (power_has 1 p, λ e. subst (Has 2) (sym e) (has_power 1))
+-- one state alone
+pub power_members : (q p : ℕ) → Has (2 ^ q) p ↔ (p ≡ q)
+power_members q p = (power_has q p, λ e. subst (Has (2 ^ q)) (sym e) (has_power q))

@@ -15,5 +15,5 @@ returns c =
     let bundle = c.in_ok-bundle.ensures.cases in
     let read = c.in_ok-read.ensures.cases in
     record {
-      outcome = inr (bundle.0, (_, _, bundle.1, read_granted _ _ _ _ _ _ _ _ c.pattern.ensures.value read.0 read.1 (λ e written. let made = c.build-machine.ensures.tables e written in c.build-machine.ensures.means e made.0 made.1) c.strips.ensures.value c.in_ok-bundle.ensures.bytes.1 c.report.ensures.reported));
+      outcome = inr (bundle.0, (_, _, bundle.1, read_granted _ _ _ _ _ _ _ _ c.pattern.ensures.value read.0 read.1 (λ e written. (c.build-machine.ensures.built e written).means) c.strips.ensures.value c.in_ok-bundle.ensures.bytes.1 c.report.ensures.reported));
     }

@@ -1,20 +1,15 @@
-use Rattle.machines.proofs.Lawful.{spelled_exactly, each_place_lives, means_exactly, reaches_exactly, joins_exactly, neutral}
+use Rattle.std.proofs.Common.{sym, subst}
+use Rattle.std.proofs.lemmas.Option.{MatchOption-at_some}
+use Rattle.machines.specs.PlaceTables.{TablesOf}
+use Rattle.machines.proofs.Lawful.{place_laws, built_for}
+use Rattle.machines.proofs.Parts.{few_tables}
 use Rattle.machines.proofs.assembling.build.Goals as goal
 
-pub returns-clause-means : goal.returns-clause-means
-returns-clause-means c = means_exactly c.new.result.tables c.new.result.made
+pub returns-clause-built : goal.returns-clause-built
+returns-clause-built c e written =
+    let whole = c.unwrap-whole.result in
+    let part = MatchOption-at_some _ _ _ c.unwrap-whole.ensures (c.assemble.ensures.value e written) in
+    built_for e c.new.result.tables part.sane (subst (TablesOf e) (sym c.new.ensures.tables) (few_tables e whole.tables whole.count whole.small part))
 
-pub returns-clause-reaches : goal.returns-clause-reaches
-returns-clause-reaches c = reaches_exactly c.new.result.tables
-
-pub returns-clause-joins : goal.returns-clause-joins
-returns-clause-joins c = joins_exactly c.new.result.tables c.new.result.made
-
-pub returns-clause-neutral : goal.returns-clause-neutral
-returns-clause-neutral c = neutral c.new.result.tables c.new.result.made
-
-pub returns-clause-spelled : goal.returns-clause-spelled
-returns-clause-spelled c = spelled_exactly
-
-pub returns-clause-places : goal.returns-clause-places
-returns-clause-places c = each_place_lives
+pub returns-clause-laws : goal.returns-clause-laws
+returns-clause-laws c = place_laws

@@ -8,8 +8,10 @@ pub returns : goal.returns
 returns c =
     let low = c.args.low in
     let high = c.args.high in
+    let place = c.single-place.result in
+    let one = rw c.nth.ensures.value at c.single-place.ensures.members in
     record {
       members =
           rows_by (λ k p. (p ≡ 1) × ((low ≤ k) × (k ≤ high))) c.from_fn.ensures.items (λ i y f lt h. search rules)
-          (λ i y f lt h. let is : Members y (Only (leb low i && leb i high) 2) = search rules in range_members y low i high is);
+          (λ i y f lt h. let is : Members y (Only (leb low i && leb i high) place) = search rules in range_members y place low i high one is);
     }

@@ -20,6 +20,17 @@ invariant_of-result g c =
           (m.0 x.0 y.0, m.1.tables x.0 y.0 a.tables b.tables c.later.result c.operation.result a.count b.count x.1 y.1 (omega arith) moved (_, _, c.operation.ensures, refl, refl))));
     }
 
+pub returns-then-count-gt-MOST_PLACES : goal.returns-then-count-gt-MOST_PLACES
+returns-then-count-gt-MOST_PLACES g c = record {
+  value = λ make makes e f x y.
+      let own = MatchOption-at_some _ _ _ (sym c.as_ref.ensures.value ∙ ap option_copied c.in_ok-own.was) x in
+      let other = MatchOption-at_some _ _ _ (sym c.as_ref-2.ensures.value ∙ ap option_copied c.in_ok-other.was) y in
+      let m = own.count in
+      let n = other.count in
+      let both = makes.places e f in
+      (makes.sane e f own.sane other.sane, omega arith);
+}
+
 pub returns : goal.returns
 returns g c =
     let a = c.in_ok-own.own.now in

@@ -1,6 +1,6 @@
 use Rattle.std.proofs.Common.{rules}
 use Rattle.machines.specs.Building.{takers, LoopRow}
-use Rattle.machines.proofs.Combining.{either_members, own_members, zeroth}
+use Rattle.machines.proofs.Combining.{either_members, own_members}
 use Rattle.machines.proofs.Filling.{rows_by}
 use Rattle.machines.proofs.tables.Tables.looped.Goals as goal
 
@@ -11,6 +11,6 @@ returns c =
       members = record {
         rows = rows_by (LoopRow a) c.from_fn.ensures.items (λ i y f lt h. search rules) (λ i y f lt h. search rules);
         takes = λ k p lt. (own_members (takers a k)).at p;
-        accepts = (either_members a.accepts 1 (own_members a.accepts) zeroth).at;
+        accepts = (either_members a.accepts c.single.result (own_members a.accepts) (rw c.start.ensures.value at c.single.ensures.members)).at;
       };
     }

@@ -1,5 +1,5 @@
 use Rattle.machines.specs.Building.{nexts, takers}
-use Rattle.machines.proofs.Combining.{either_members, own_members, zeroth}
+use Rattle.machines.proofs.Combining.{either_members, own_members}
 use Rattle.machines.proofs.tables.Tables.spared.Goals as goal
 
 pub returns : goal.returns
@@ -9,6 +9,6 @@ returns c =
       members = record {
         rows = λ q p lt. (own_members (nexts a q)).at p;
         takes = λ k p lt. (own_members (takers a k)).at p;
-        accepts = (either_members a.accepts 1 (own_members a.accepts) zeroth).at;
+        accepts = (either_members a.accepts c.single.result (own_members a.accepts) (rw c.start.ensures.value at c.single.ensures.members)).at;
       };
     }

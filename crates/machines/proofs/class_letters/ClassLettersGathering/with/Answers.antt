@@ -1,9 +1,9 @@
 use Rattle.std.proofs.Common.{[], ◌∷◌, ◌++◌, sym, subst}
 use Rattle.std.proofs.lemmas.Option.{MatchOption-at_none, MatchOption-at_some}
 use Rattle.pattern.specs.Expressions.{byte}
-use Rattle.machines.specs.Gathered.{Gathered}
+use Rattle.machines.specs.ClassLetters.{LettersOfClass}
 use Rattle.machines.proofs.ClassSymbols.{push_widens, first_widens, falling_none}
-use Rattle.machines.proofs.gathered.ClassLettersGathering.with.Goals as goal
+use Rattle.machines.proofs.class_letters.ClassLettersGathering.with.Goals as goal
 
 pub returns-in-Some : goal.returns-in-Some
 returns-in-Some c = record { value = λ rs held. c.with.ensures.value rs _ (push_widens rs _ _) (MatchOption-at_some _ _ _ c.in-Some.is held) }
@@ -11,7 +11,7 @@ returns-in-Some c = record { value = λ rs held. c.with.ensures.value rs _ (push
 pub returns-in-None : goal.returns-in-None
 returns-in-None c = record {
   value = λ rs held.
-      subst (λ o. Gathered o (rs ++ (c.args.low, c.args.high) ∷ [])) (sym c.in-None.is)
+      subst (λ o. LettersOfClass o (rs ++ (c.args.low, c.args.high) ∷ [])) (sym c.in-None.is)
       (falling_none rs _ _ (MatchOption-at_none _ _ c.in-None.is held) c.if-low-high.true);
 }
 

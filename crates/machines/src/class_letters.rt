@@ -1,5 +1,5 @@
 // The bytes of a class while its members are gathered.
-ghost use Rattle.machines.specs.Gathered.{Gathered};
+ghost use Rattle.machines.specs.ClassLetters.{LettersOfClass};
 
 use crate::letters::Letters;
 use pattern::gathering::Gathering;
@@ -11,7 +11,7 @@ pub struct ClassLetters {
 }
 
 impl Gathering for ClassLetters {
-    ghost holds = { λ l rs. Gathered l.letters rs };
+    ghost holds = { λ l rs. LettersOfClass l.letters rs };
 
     fn none() -> ClassLetters {
         ClassLetters { letters: None }

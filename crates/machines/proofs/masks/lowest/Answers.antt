@@ -1,0 +1,12 @@
+use Rattle.std.proofs.Common.{⊎_elim, arith}
+use Rattle.std.specs.Int.{w64}
+use Rattle.std.proofs.lemmas.Bool.{cases_lt}
+use Rattle.std.proofs.lemmas.Nat.Bits.{bit_at-trailing_zeros}
+use Rattle.machines.proofs.masks.lowest.Goals as goal
+
+pub returns : goal.returns
+returns c =
+    let (small, member, none) = bit_at-trailing_zeros w64 c.args.set (let some = c.requires.some in omega arith) c.ranges.set.fits in
+    rw c.nth.ensures.value (record {
+      value = record { member = member; first = λ p has. ⊎_elim (λ lt. absurd (let z = none p lt in omega arith)) (λ le. le) (cases_lt p _) };
+    })
