@@ -9,6 +9,7 @@ use crate::report::Report;
 use crate::walk::{Strip, Strips};
 use fault::Fault;
 use folding::fold::Judging;
+use law::new_roll;
 use roll::feeding;
 use roll::lent::LentMut;
 use roll::roll::Roll;
@@ -45,7 +46,7 @@ pub fn report<M: Judging>(lent: &mut LentMut<M>, strips: Strips) -> Result<Repor
     ensures ran { Ran (M.Folding.leg lent.old.machine.now) (M.Judging.means lent.old.machine.now) lent.old.legs.now lent.old.tallies.now (left strips.entry) lent.new.legs.now lent.new.tallies.now result }
     ensures lent { StillLent lent.old lent.new }
 {
-    let mut roll = Roll::new::<M, M>();
+    let mut roll = new_roll::<M, M>();
     roll.open(lent, SLOTS)?;
     file_all(&mut roll, lent, strips)?;
     let lent = lent.shared();
