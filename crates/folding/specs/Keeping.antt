@@ -4,7 +4,7 @@
 --   slots cells            the slots' own cells, in slot order
 --   Clears leg was is      the cells are those of empty texts
 --   Puts leg was s one is  cells of texts became those of the same texts with w in slot s, where `one` is the leg of w;
---                          `rest` is the last cell of an odd number of cells, which is in no tree
+--                          `rest` is the last of an odd number of cells, which is no slot's and above none
 --   Spares was s is        whatever the values, no cell but slot s and those above it has changed
 --   Ready leg slots i all  the cells are those of the texts, save perhaps cell i and those above it
 --   Gathers leg all r      r is the leg of the texts joined in slot order

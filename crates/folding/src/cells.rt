@@ -92,7 +92,7 @@ pub fn whole<F: Folding>(folding: &F, cells: &[F::Leg]) -> F::Leg
 }
 
 // The first slot at whose end the text so far is lost. A lost text stays lost whatever follows, so
-// the slot is found by halving: each leg is folded once, and `lost` asked once to a halving.
+// the slot is found by halving: in all no more joins than slots, and one question to a halving.
 pub fn first_lost<M: Judging>(machine: &M, cells: &[M::Leg]) -> Option<usize>
     ensures value { (slots : List (List ℕ)) → AllBytes slots → Slotted (M.Folding.leg machine.now) cells.now slots → FirstLost (M.Judging.means machine.now) slots result }
 {
