@@ -10,9 +10,9 @@ use crate::report::Report;
 use fault::Fault;
 use folding::fold::Folding;
 use folding::tally::Tallying;
-use machines::assembling::build;
-use pattern::record::Pattern;
-use roll::lent::LentMut;
+use machines::build;
+use pattern::Pattern;
+use roll::LentMut;
 use std::alloc::{AllocError, Global};
 
 const CELLS: usize = 256;

@@ -10,9 +10,7 @@ use crate::walk::{Strip, Strips};
 use fault::Fault;
 use folding::fold::Judging;
 use law::new_roll;
-use roll::feeding;
-use roll::lent::LentMut;
-use roll::roll::Roll;
+use roll::{LentMut, Roll, feeding};
 
 const SLOTS: usize = 128;
 

@@ -8,7 +8,7 @@ ghost use Rattle.roll.specs.Steps.{AsMade};
 ghost use Rattle.law.specs.Whole.{Whole};
 
 use folding::fold::Judging;
-use roll::roll::Roll;
+use roll::Roll;
 
 // A roll with no slots. `whole` is what the library is for: it speaks of every run of a roll under a
 // machine of kind M, beside every run of another under a machine of kind O (which may be the same

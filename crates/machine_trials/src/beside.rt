@@ -4,12 +4,10 @@ use crate::spans;
 use fault::Fault;
 use folding::fold::Folding;
 use folding::tally::Tallying;
-use machines::assembling::build;
-use machines::place::PlaceMachine;
-use pattern::record::Pattern;
+use machines::{PlaceMachine, build};
+use pattern::Pattern;
 use roll::feeding::strip_of;
-use roll::lent::LentMut;
-use roll::roll::Roll;
+use roll::{LentMut, Roll};
 use std::fmt;
 
 // What the two say of a text: that it follows the pattern, that it doesn't, or not the same; or that

@@ -5,7 +5,7 @@ ghost use Rattle.machines.specs.Laws.{PlaceLaws};
 use crate::fragment::Fragment;
 use crate::place::PlaceMachine;
 use folding::fold::{Folding, Judging};
-use pattern::record::Pattern;
+use pattern::Pattern;
 
 // The laws are those of all place machines, and ask nothing of this one.
 pub fn build(pattern: &Pattern) -> PlaceMachine

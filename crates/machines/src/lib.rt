@@ -11,3 +11,6 @@ pub mod place;
 pub mod placeno;
 pub mod relation;
 pub mod tables;
+
+pub use crate::assembling::build;
+pub use crate::place::PlaceMachine;

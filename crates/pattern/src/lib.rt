@@ -13,3 +13,5 @@ pub mod record;
 mod repeat;
 mod sign;
 mod verdict;
+
+pub use crate::record::Pattern;

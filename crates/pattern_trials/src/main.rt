@@ -1,7 +1,7 @@
 // Reads a pattern from each line of the input and prints how it is read or refused.
 #![tactic(auto)]
 
-use pattern::record::Pattern;
+use pattern::Pattern;
 use std::io;
 
 fn show(rt: &HostRuntime, pattern: &mut Pattern, line: &str) -> io::Result<()> {

@@ -7,3 +7,7 @@ pub mod lent;
 pub mod roll;
 pub mod slot;
 pub mod strip;
+
+pub use crate::lent::{Lent, LentMut};
+pub use crate::roll::Roll;
+pub use crate::strip::{Returned, Strip};

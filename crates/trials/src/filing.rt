@@ -5,8 +5,7 @@ use fault::Fault;
 use folding::fold::Judging;
 use folding::tally::Tally;
 use roll::feeding::{begin, feed};
-use roll::lent::LentMut;
-use roll::roll::Roll;
+use roll::{LentMut, Roll};
 
 pub(crate) fn file<M: Judging>(
     roll: &mut Roll,

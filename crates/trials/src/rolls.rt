@@ -8,8 +8,7 @@ use fault::{Fault, Layer, Refusal};
 use folding::fold::{Folding, Judging};
 use folding::tally::{Tally, Tallying};
 use roll::feeding::{begin, feed};
-use roll::lent::{Lent, LentMut};
-use roll::roll::Roll;
+use roll::{Lent, LentMut, Roll};
 use std::test::Fail;
 
 fn refused<T>(refusal: Refusal, place: usize) -> Result<T, Fault> {
