@@ -7,6 +7,4 @@ pub mod decode;
 pub mod enough;
 pub mod filing;
 pub mod report;
-#[cfg(test)]
-mod tests;
 pub mod walk;

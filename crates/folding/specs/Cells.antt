@@ -1,7 +1,7 @@
 -- The cells of N texts: a binary tree of their legs, laid out in 2N entries. Assumes nothing.
 --
 --   under slots i    the text below cell i of the texts in `slots`
---   Tree slots u     the layout: cell 0 is the empty text's, cell N + s is slot s, and cell i from 1 to N - 1 joins cells 2i and 2i + 1
+--   Tree slots u     the layout: no text under cell 0, that of slot s under cell N + s, and under each cell i between them that of cell 2i and then that of cell 2i + 1
 --   cells leg slots  the 2N legs
 --   Above k i        cell k is cell i or stands above it
 use Rattle.std.specs.Prelude.{◌≡◌, ℕ, zero, suc, ◌+◌, ◌-◌, ◌*◌, ◌/◌, ◌^◌, ◌<◌, ◌≤◌, cond, List, [], ◌++◌, map, length, nat_lt, slice_index_or}

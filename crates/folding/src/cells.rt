@@ -91,8 +91,8 @@ pub fn whole<F: Folding>(folding: &F, cells: &[F::Leg]) -> F::Leg
     cells.get(1).copied().unwrap_or_else(|| folding.empty())
 }
 
-// The first slot at whose end the text so far is lost. A lost text stays lost whatever follows, so
-// the slot is found by halving: in all no more joins than slots, and one question to a halving.
+// The lowest slot after which the text cannot be completed any more. A lost text stays lost, so it is
+// found by halving: in all no more joins than slots, and one question to a halving.
 pub fn first_lost<M: Judging>(machine: &M, cells: &[M::Leg]) -> Option<usize>
     ensures value { (slots : List (List ℕ)) → AllBytes slots → Slotted (M.Folding.leg machine.now) cells.now slots → FirstLost (M.Judging.means machine.now) slots result }
 {

@@ -33,8 +33,8 @@ pub trait Folding {
     }
 }
 
-// A folding that also means a set of texts, and tells from the leg of a text whether the text is
-// in the set and whether anything that follows can still bring it there.
+// A folding with a set of texts, those it means. It tells from the leg of a text whether the text is
+// in the set, and whether anything that follows can still bring it there.
 pub trait Judging: Folding {
     ghost means: { Self → List ℕ → Type 0 };
 

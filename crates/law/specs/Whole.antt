@@ -19,7 +19,7 @@ MeansPattern p M = (e : Regex) → ReadAs p e → (w : List ℕ) → Bytes w →
 pub record Whole {L K : Type 0} (leg : List ℕ → L) (M : List ℕ → Type 0) (leg' : List ℕ → K) (M' : List ℕ → Type 0) : Type 0 where
   -- of every run under the one machine, and of any two runs under the two
   pub law : Law leg M leg' M'
-  -- the place machine that is built from a pattern is a judging machine, and its set is exactly the texts that the pattern means
+  -- the place machine that is built from a pattern has for its set exactly the texts that the pattern means
   pub place : (p : List ℕ) (m : PlaceMachine) → Built p m.tables (place_judging.means m) (place_folding.leg m) → MeansPattern p (place_judging.means m)
   -- two machines of one pattern mean the same texts, so what the law says of two rolls holds of any two rolls of one pattern
   pub one_pattern : (p : List ℕ) → Readable p → MeansPattern p M → MeansPattern p M' → Same M M'

@@ -36,13 +36,13 @@ pub record Law {L K : Type 0} (leg : List ℕ → L) (M : List ℕ → Type 0) (
   pub follows : (s : State L) (s' : State K) (h h' g g' : List Event) → Run leg M s (g ++ h) → Run leg' M' s' (g' ++ h') → Same M M' → plain h ≡ plain h' → map asked g ≡ map asked g' → g ≡ g'
   -- whatever cells, strips and machines were lent to whichever call, the refusals are those that the slots held and the lengths say
   pub refusals : (r : Roll) (h : List Event) → Met r h → (slots r ≡ held h) × Due h
-  -- the verdict is yes exactly when the held strips, joined in slot order, make a text that the machine means, and the totals are that text's
+  -- the verdict is yes exactly when the machine means the roll's joined text, and the totals are that text's
   pub verdict : (h : List Event) (b : Bool) → Newest leg M h on.verdict (judged b) → Decides b (M (whole (plain h)))
   pub totals : (h : List Event) (t : Tally) → Newest leg M h on.totals (tallied t) → t ≡ tally (whole (plain h))
-  -- two rolls with equal joined texts, under machines that mean the same texts, give equal verdicts and totals
+  -- where the joined texts of two rolls are one text, and their machines mean the same, the verdicts agree, and so do the totals
   pub verdicts : (h h' : List Event) (b b' : Bool) → Newest leg M h on.verdict (judged b) → Newest leg' M' h' on.verdict (judged b') → Same M M' → whole (plain h) ≡ whole (plain h') → b ≡ b'
   pub sums : (h h' : List Event) (t t' : Tally) → Newest leg M h on.totals (tallied t) → Newest leg' M' h' on.totals (tallied t') → whole (plain h) ≡ whole (plain h') → t ≡ t'
-  -- the culprit is the first slot such that no text that follows the strips up to and with it could lead to a yes
+  -- the culprit is the lowest slot after which every continuation is answered no
   pub culprit : (h : List Event) (c : Option ℕ) → Newest leg M h on.culprit (named c) → FirstLost M (texts (plain h)) c
-  -- none is named exactly when some text that follows the whole roll could
+  -- there is none exactly when the whole roll can still be continued to a yes
   pub none : (h : List Event) (c : Option ℕ) → Newest leg M h on.culprit (named c) → (c ≡ None → Hopeful M (whole (plain h))) × (Hopeful M (whole (plain h)) → c ≡ None)

@@ -1,6 +1,6 @@
 -- The plain roll: what a roll means, with the texts themselves in its slots. Assumes nothing.
 --
---   Plain      for each slot a text, or nothing; as made it has no slots
+--   Plain      a list of slots, each with a text or without; at first the list is empty
 --   texts p    the text of each slot, the empty one for an empty slot
 --   whole p    the held texts, joined in slot order
 --   marks p    which slots are held

@@ -1,4 +1,4 @@
--- The texts whose byte count is divisible by three. Assumes nothing.
+-- The texts whose length is a multiple of three. Assumes nothing.
 use Rattle.std.specs.Prelude.{◌≡◌, ℕ, ◌%◌, List, length}
 
 -- what is kept of a text: its byte count, by threes

@@ -3,6 +3,8 @@
 
 #[cfg(test)]
 mod bundles;
+#[cfg(test)]
+mod decoding;
 mod filing;
 #[cfg(test)]
 mod rolls;

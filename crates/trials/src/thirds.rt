@@ -1,4 +1,4 @@
-// A judging machine for the texts whose byte count is divisible by three. No text is ever lost to it.
+// Judges whether a text's length is a multiple of three. No text is ever lost to it.
 ghost use Rattle.trials.specs.Thirds.{rest, ByThrees};
 ghost use Rattle.std.proofs.Common.{rules};
 

@@ -1,6 +1,6 @@
 // The example of docs/bundles.md, and inputs of a wrong size.
-use crate::decode::Bundle;
-use crate::walk::Strip;
+use bundle::decode::Bundle;
+use bundle::walk::Strip;
 use fault::{Layer, Refusal};
 use std::test::Fail;
 
