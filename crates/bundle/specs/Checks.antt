@@ -3,6 +3,7 @@
 --   Checked p ss r   r is what the strips ss come to under the pattern p: the pattern's fault, or their report or fault
 --   Outcome input r  r is what an input comes to: the fault of its size, or what its strips come to under its pattern
 --   said r           the text that is printed
+--   Prints input t   t is that text of what an input comes to
 use Rattle.std.specs.Prelude.{◌≡◌, ℕ, ◌⊎◌, List, Ok, Err, Result}
 use Rattle.fault.specs.Lines.{line}
 use Rattle.fault.specs.declared.Fault.{Fault}
@@ -25,3 +26,6 @@ Outcome input r = ((RightSize input → ⊥) × (r ≡ Err (wrong_size input))) 
 abbrev pub said : Result Report Fault → List ℕ
 said (Ok r) = lines r
 said (Err f) = line f
+
+abbrev pub Prints : List ℕ → List ℕ → Type 0
+Prints input t = (r : Result Report Fault) × Outcome input r × (t ≡ said r)

@@ -5,12 +5,17 @@
 --   left s        the strips that are still to come
 --   pattern_of b  the pattern of the bundle b
 --   strips_of b   its strips, in their order
-use Rattle.std.specs.Prelude.{ℕ, ◌<◌, List, length}
+--   IsOfBytes b   the pattern and the strips of b are made of bytes
+--   Reads bs b    bs has the right size, and is the pattern and the strips of b, written as a bundle
+use Rattle.std.specs.Prelude.{◌≡◌, ℕ, ◌<◌, List, length}
+use Rattle.std.specs.List.{AllByRecursion}
+use Rattle.folding.specs.Texts.{Bytes}
 use Rattle.bundle.specs.declared.decode.Bundle.{Bundle}
 use Rattle.bundle.specs.declared.walk.Strip.{Strip}
 use Rattle.bundle.specs.declared.walk.Strips.{Strips}
 use Rattle.bundle.specs.Cuts.{cut}
-use Rattle.bundle.specs.Layout.{Piece}
+use Rattle.bundle.specs.Layout.{Piece, OfBytes, written}
+use Rattle.bundle.specs.Sizes.{RightSize}
 
 abbrev pub piece : Strip → Piece
 piece s = record { slot = s.slot; text = s.text.now }
@@ -26,3 +31,9 @@ pattern_of b = b.pattern.now
 
 abbrev pub strips_of : Bundle → List Piece
 strips_of b = left b.strips
+
+abbrev pub IsOfBytes : Bundle → Type 0
+IsOfBytes b = Bytes (pattern_of b) × AllByRecursion OfBytes (strips_of b)
+
+abbrev pub Reads : List ℕ → Bundle → Type 0
+Reads bs b = RightSize bs × (bs ≡ written (pattern_of b) (strips_of b))

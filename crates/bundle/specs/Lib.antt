@@ -5,6 +5,7 @@ pub mod Handed
 pub mod History
 pub mod Laws
 pub mod Layout
+pub mod Lending
 pub mod Lines
 pub mod Outcome
 pub mod Sizes

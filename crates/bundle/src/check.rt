@@ -1,8 +1,6 @@
 // The check of a whole bundle.
-ghost use Rattle.std.specs.Prelude.{◌≡◌, IfOk, string_bytes, Result as Answer};
-ghost use Rattle.fault.specs.declared.Fault.{Fault as AnyFault};
-ghost use Rattle.bundle.specs.Checks.{Outcome, said};
-ghost use Rattle.bundle.specs.declared.report.Report.{Report as AnyReport};
+ghost use Rattle.std.specs.Prelude.{IfOk, string_bytes};
+ghost use Rattle.bundle.specs.Checks.{Outcome, Prints};
 
 use crate::decode::Bundle;
 use crate::filing::report;
@@ -37,7 +35,7 @@ pub fn check(input: &[u8]) -> Result<Report, Fault>
 
 // The same as the text that a program prints.
 pub fn answer(heap: Global, input: &[u8]) -> Result<String, AllocError>
-    ensures text { IfOk result (λ s. (o : Answer AnyReport AnyFault) × Outcome input.now o × (string_bytes s ≡ said o)) }
+    ensures text { IfOk result (λ s. Prints input.now (string_bytes s)) }
 {
     match check(input) {
         Ok(report) => report.to_string(heap),

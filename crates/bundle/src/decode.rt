@@ -1,12 +1,10 @@
 // Takes a bundle apart, or refuses it for its size.
 ghost use Rattle.std.specs.Prelude.{◌≡◌, IfOk, Decides, MatchResult};
-ghost use Rattle.std.specs.List.{AllByRecursion};
-ghost use Rattle.folding.specs.Texts.{Bytes};
-ghost use Rattle.bundle.specs.Handed.{pattern_of, strips_of, left};
+ghost use Rattle.bundle.specs.Handed.{pattern_of, strips_of, left, IsOfBytes, Reads};
 ghost use Rattle.bundle.specs.Laws.{OneReading, Granted};
-ghost use Rattle.bundle.specs.Layout.{OfBytes, written};
+ghost use Rattle.bundle.specs.Layout.{written};
 ghost use Rattle.bundle.specs.Sizes.{announced, RightSize};
-ghost use Rattle.bundle.specs.Wrong.{wrong_size};
+ghost use Rattle.bundle.specs.Wrong.{WrongSize};
 
 use crate::bytes;
 use crate::walk::Strips;
@@ -42,8 +40,9 @@ fn right_size(input: &[u8]) -> bool
 }
 
 fn parted<'a>(input: &'a [u8]) -> Bundle<'a>
-    ensures bytes { Bytes (pattern_of result) × AllByRecursion OfBytes (strips_of result) }
-    ensures whole { RightSize input.now → input.now ≡ written (pattern_of result) (strips_of result) }
+    ensures bytes { IsOfBytes result }
+    ensures whole { RightSize input.now
+        → input.now ≡ written (pattern_of result) (strips_of result) }
 {
     let n = bytes::word(input, 0);
     let p = bytes::word(input, 2);
@@ -62,8 +61,8 @@ fn parted<'a>(input: &'a [u8]) -> Bundle<'a>
 impl<'a> Bundle<'a> {
     // A longer input counts as one byte more than the limit, since nobody need read on to refuse it.
     pub fn decode(input: &'a [u8]) -> Result<Bundle<'a>, Fault>
-        ensures cases { MatchResult result (λ b. RightSize input.now × (input.now ≡ written (pattern_of b) (strips_of b))) (λ f. (RightSize input.now → ⊥) × (f ≡ wrong_size input.now)) }
-        ensures bytes { IfOk result (λ b. Bytes (pattern_of b) × AllByRecursion OfBytes (strips_of b)) }
+        ensures cases { MatchResult result (Reads input.now) (WrongSize input.now) }
+        ensures bytes { IfOk result IsOfBytes }
         ensures one_reading { OneReading }
         ensures granted { Granted }
     {

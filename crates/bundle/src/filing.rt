@@ -1,9 +1,7 @@
 // Files the strips of a bundle into a roll of 128 slots, and puts the questions to it.
-ghost use Rattle.std.specs.Prelude.{length};
-ghost use Rattle.roll.specs.Lending.{with, StillLent};
+ghost use Rattle.roll.specs.Lending.{StillLent};
 ghost use Rattle.bundle.specs.Handed.{piece, left, Short};
-ghost use Rattle.bundle.specs.History.{FiledOne, FiledAll, Ran};
-ghost use Rattle.bundle.specs.Outcome.{begun, Reported};
+ghost use Rattle.bundle.specs.Lending.{FiledOneWith, FiledAllWith, ReportedWith, RanWith};
 
 use crate::report::Report;
 use crate::walk::{Strip, Strips};
@@ -17,7 +15,8 @@ const SLOTS: usize = 128;
 // The roll and what is lent with its calls stay two values: a roll outlives what is lent.
 fn file_one<M: Judging>(roll: &mut Roll, lent: &mut LentMut<M>, strip: Strip) -> Result<(), Fault>
     requires short { Short strip }
-    ensures filed { FiledOne (M.Folding.leg lent.old.machine.now) (M.Judging.means lent.old.machine.now) (with roll.old lent.old) (piece strip.entry) result (with roll.new lent.new) }
+    ensures filed { FiledOneWith M.Folding.leg M.Judging.means
+        roll.old lent.old (piece strip.entry) result roll.new lent.new }
     ensures lent { StillLent lent.old lent.new }
 {
     let open = feeding::strip_of(lent.machine, strip.text)?;
@@ -28,7 +27,8 @@ fn file_one<M: Judging>(roll: &mut Roll, lent: &mut LentMut<M>, strip: Strip) ->
 // Files the strips in their order, a later one for a slot in place of an earlier one. The first
 // refusal ends it.
 fn file_all<M: Judging>(roll: &mut Roll, lent: &mut LentMut<M>, strips: Strips) -> Result<(), Fault>
-    ensures filed { FiledAll (M.Folding.leg lent.old.machine.now) (M.Judging.means lent.old.machine.now) (with roll.old lent.old) (left strips.entry) result (with roll.new lent.new) }
+    ensures filed { FiledAllWith M.Folding.leg M.Judging.means
+        roll.old lent.old (left strips.entry) result roll.new lent.new }
     ensures lent { StillLent lent.old lent.new }
 {
     for strip in strips {
@@ -40,8 +40,9 @@ fn file_all<M: Judging>(roll: &mut Roll, lent: &mut LentMut<M>, strips: Strips) 
 // What the strips come to under a machine, with cells for 128 slots: the first refusal ends it. Its
 // calls are a run, of which the law of rolls speaks.
 pub fn report<M: Judging>(lent: &mut LentMut<M>, strips: Strips) -> Result<Report, Fault>
-    ensures reported { Reported (M.Judging.means lent.old.machine.now) (begun (length lent.old.legs.now) (length lent.old.tallies.now) (left strips.entry)) result }
-    ensures ran { Ran (M.Folding.leg lent.old.machine.now) (M.Judging.means lent.old.machine.now) lent.old.legs.now lent.old.tallies.now (left strips.entry) lent.new.legs.now lent.new.tallies.now result }
+    ensures reported { ReportedWith M.Judging.means lent.old (left strips.entry) result }
+    ensures ran { RanWith M.Folding.leg M.Judging.means
+        lent.old (left strips.entry) lent.new result }
     ensures lent { StillLent lent.old lent.new }
 {
     let mut roll = new_roll::<M, M>();

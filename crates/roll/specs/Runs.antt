@@ -15,7 +15,7 @@ use Rattle.roll.specs.Calls as calls
 use Rattle.roll.specs.Calls.{Answer, done, tallied, judged, named}
 use Rattle.roll.specs.Refusals.{Call, opening, filing, withdrawal, verdict, totals, culprit}
 use Rattle.roll.specs.Stands.{State}
-use Rattle.roll.specs.Steps.{fault_of, heard, heard_back, OnRoll, Does, Withdraws, Opens, Files, AsMade, Begins, Feeds}
+use Rattle.roll.specs.Steps.{fault_of, heard, heard_back, OnRoll, Asks, Withdraws, Opens, Files, AsMade, Begins, Feeds}
 use Rattle.roll.specs.declared.roll.Roll.{Roll}
 use Rattle.roll.specs.declared.strip.Returned.{Returned}
 use Rattle.roll.specs.declared.strip.Strip.{Strip}
@@ -30,9 +30,9 @@ pub data Called {L : Type 0} (leg : List ℕ → L) (M : List ℕ → Type 0) : 
   opens : {was is : State L} {n : ℕ} {a : Answer} (r : Result (Unit {0}) Fault) → Opens leg was n r is → a ≡ heard (λ _. done) r → Called leg M was (opening n) a is
   files : {was is : State L} {n : ℕ} {w : List ℕ} {a : Answer} (s : Strip L) (r : Result Tally (Returned L)) → Fed leg M s w → Files leg M was n s r is → a ≡ heard_back r → Called leg M was (filing n w) a is
   withdraws : {was is : State L} {n : ℕ} {a : Answer} (r : Result (Unit {0}) Fault) → Withdraws leg M was n r is → a ≡ heard (λ _. done) r → Called leg M was (withdrawal n) a is
-  judges : {s : State L} {a : Answer} (r : Result Bool Fault) → Does leg M s verdict (heard judged r) s → a ≡ heard judged r → Called leg M s verdict a s
-  adds : {s : State L} {a : Answer} (r : Result Tally Fault) → Does leg M s totals (heard tallied r) s → a ≡ heard tallied r → Called leg M s totals a s
-  blames : {s : State L} {a : Answer} (r : Result (Option ℕ) Fault) → Does leg M s culprit (heard named r) s → a ≡ heard named r → Called leg M s culprit a s
+  judges : {s : State L} {a : Answer} (r : Result Bool Fault) → Asks leg M s verdict (heard judged r) → a ≡ heard judged r → Called leg M s verdict a s
+  adds : {s : State L} {a : Answer} (r : Result Tally Fault) → Asks leg M s totals (heard tallied r) → a ≡ heard tallied r → Called leg M s totals a s
+  blames : {s : State L} {a : Answer} (r : Result (Option ℕ) Fault) → Asks leg M s culprit (heard named r) → a ≡ heard named r → Called leg M s culprit a s
 
 -- a call by its arguments, the lent tables as their lengths, and its answer
 pub record Event : Type 0 where

@@ -5,12 +5,14 @@
 --   Always    the same, and that a refused call leaves the lent tables as they were
 --   Touches   with no premise but the grant: the slot's own cells, and that nothing but these and the cells above them changed
 --   Keeps     whatever plain roll the state stood for, a granted call answers as that one does, and the state stands for what that one keeps
---   Does      Always and Keeps: the questions, which leave the state as it is
+--   Does      Always and Keeps
+--   Asks      the same of a question, which leaves the state as it is
 --   Withdraws, Files   these and Touches; filing for whatever text the strip holds, and a refusal hands the strip back
 --   Opens     Always, and that the state stands for empty slots, whatever the roll and the cells held
 --   AsMade    what making a roll answers
 --   Begins, Feeds   a strip of no bytes; more bytes, or none where there would be too many
 --   FedAtOnce       a strip that was begun and fed this text
+--   StripOf         such a strip, or the fault of a text that is too long for one
 --
 -- Where the state stands for no plain roll under this machine, or the strip holds no text under it, `Keeps` says nothing. Open is then
 -- only what a question answers, and what stands in the cells above a slot that was filed or emptied.
@@ -73,6 +75,9 @@ pub record Does {L : Type 0} (leg : List ℕ → L) (M : List ℕ → Type 0) (w
   pub always : Always was c a is
   pub keeps : Keeps leg M was c a is
 
+abbrev pub Asks : {L : Type 0} → (List ℕ → L) → (List ℕ → Type 0) → State L → Call → Answer → Type 0
+Asks leg M s q a = Does leg M s q a s
+
 pub record Withdraws {L : Type 0} (leg : List ℕ → L) (M : List ℕ → Type 0) (was : State L) (s : ℕ) (r : Result (Unit {0}) Fault) (is : State L) : Type 0 where
   pub does : Does leg M was (withdrawal s) (heard (λ _. done) r) is
   pub touches : refusal_at was (withdrawal s) ≡ None → Touches was s (leg []) (tally []) is
@@ -104,3 +109,6 @@ pub record Feeds {L : Type 0} (leg : List ℕ → L) (was : Strip L) (bytes : Li
 
 abbrev pub FedAtOnce : {L : Type 0} → (List ℕ → L) → List ℕ → Strip L → Type 0
 FedAtOnce {L} leg text is = (was : Strip L) × Begins leg was × Feeds leg was text (Ok (length text)) is
+
+abbrev pub StripOf : {L : Type 0} → (List ℕ → L) → List ℕ → Result (Strip L) Fault → Type 0
+StripOf leg text r = MatchResult r (FedAtOnce leg text) (λ f. (longest < length text) × (f ≡ fault StripTooLong 0))

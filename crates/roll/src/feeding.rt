@@ -1,9 +1,5 @@
 // Beginning and feeding strips.
-ghost use Rattle.std.specs.Prelude.{◌≡◌, ◌<◌, length, MatchResult};
-ghost use Rattle.fault.specs.declared.Refusal.TheVariants.{StripTooLong};
-ghost use Rattle.roll.specs.Refusals.{fault as fault_at};
-ghost use Rattle.roll.specs.Sizes.{longest};
-ghost use Rattle.roll.specs.Steps.{Begins, Feeds, FedAtOnce};
+ghost use Rattle.roll.specs.Steps.{Begins, Feeds, StripOf};
 
 use crate::strip::Strip;
 use fault::{Fault, Layer, Refusal};
@@ -43,7 +39,7 @@ pub fn feed<M: Folding>(
 
 // An open strip of a text that is at hand whole.
 pub fn strip_of<M: Folding>(machine: &M, text: &[u8]) -> Result<Strip<M::Leg>, Fault>
-    ensures cases { MatchResult result (λ s. FedAtOnce (M.Folding.leg machine.now) text.now s) (λ f. (longest < length text.now) × (f ≡ fault_at StripTooLong 0)) }
+    ensures cases { StripOf (M.Folding.leg machine.now) text.now result }
 {
     let mut strip = begin(machine);
     feed(machine, &mut strip, text)?;

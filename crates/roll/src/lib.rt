@@ -1,9 +1,11 @@
 // Rolls: one long text in strips, kept by the strips' legs and tallies, over any judging machine.
 #![tactic(auto)]
 
-pub mod calls;
 pub mod feeding;
+mod filing;
 pub mod lent;
+mod opening;
+mod questions;
 pub mod roll;
 pub mod slot;
 pub mod strip;
