@@ -29,7 +29,7 @@ module _ {L : Type 0} (leg : List ℕ → L) (M : List ℕ → Type 0) where
 
     pub one_filed : (t : Tally) → Files leg M was n strip (Ok t) is → FiledOne leg M was s (Ok tt) is
     one_filed t filed h run =
-        let own : t ≡ tally s.text = ok_same t _ (filed.answer filed.always.roll.which) ∙ (fed_holds leg M fed).tallies in
+        let own : t ≡ tally s.text = ok_same t _ (filed.answer filed.always.roll.which) ∙ (fed_holds leg M fed).counted.tallies in
         goes_on leg M run (files strip (Ok t) fed (at_slot (Ok t) filed) (ap tallied (sym own)))
       where
         ok_same : (x y : Tally) → ◌≡◌ {A = Result Tally (Returned L)} (Ok x) (Ok y) → x ≡ y

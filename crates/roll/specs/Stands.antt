@@ -3,7 +3,8 @@
 --   State        a roll, with the legs and tallies that are lent to a call
 --   slots r      the marks of the roll's slots, as many as it has
 --   Stands       a roll and its cells stand for a plain roll, under the machine with this leg function
---   Holds        an open strip holds a text
+--   Counted      the tally and the byte count of an open strip are those of a text, whichever machine fed it
+--   Holds        an open strip holds a text: its leg is that text's too
 use Rattle.std.specs.Prelude.{◌≡◌, ℕ, List, length}
 use Rattle.folding.specs.Cells.{cells}
 use Rattle.folding.specs.Tallies.{tally}
@@ -31,8 +32,11 @@ pub record Stands {L : Type 0} (leg : List ℕ → L) (s : State L) (p : Plain) 
   pub legs : s.legs ≡ cells leg (texts p)
   pub tallies : s.tallies ≡ cells tally (texts p)
 
-pub record Holds {L : Type 0} (leg : List ℕ → L) (s : Strip L) (w : List ℕ) : Type 0 where
+pub record Counted {L : Type 0} (s : Strip L) (w : List ℕ) : Type 0 where
   pub bytes : Bytes w
-  pub legs : s.leg ≡ leg w
   pub tallies : s.tally ≡ tally w
   pub count : s.fed ≡ length w
+
+pub record Holds {L : Type 0} (leg : List ℕ → L) (s : Strip L) (w : List ℕ) : Type 0 where
+  pub counted : Counted s w
+  pub legs : s.leg ≡ leg w

@@ -27,7 +27,7 @@ use Rattle.roll.specs.Calls.{Answer, done, tallied, judged, named, refused, afte
 use Rattle.roll.specs.Plain.{Plain}
 use Rattle.roll.specs.Refusals.{Call, opening, filing, withdrawal, fault, refusal, marked}
 use Rattle.roll.specs.Sizes.{longest}
-use Rattle.roll.specs.Stands.{State, slots, Stands, Holds}
+use Rattle.roll.specs.Stands.{State, slots, Stands, Counted, Holds}
 use Rattle.roll.specs.declared.roll.Roll.{Roll}
 use Rattle.roll.specs.declared.strip.Returned.{Returned}
 use Rattle.roll.specs.declared.strip.Strip.{Strip}
@@ -105,6 +105,7 @@ Begins leg s = Holds leg s []
 pub record Feeds {L : Type 0} (leg : List ℕ → L) (was : Strip L) (bytes : List ℕ) (r : Result ℕ Fault) (is : Strip L) : Type 0 where
   pub text : Bytes bytes
   pub cases : MatchResult r (λ n. (n ≡ was.fed + length bytes) × (n ≤ longest) × (is.fed ≡ n)) (λ f. (longest < was.fed + length bytes) × (f ≡ fault StripTooLong was.fed) × (is ≡ was))
+  pub counts : (w : List ℕ) → Counted was w → MatchResult r (λ n. Counted is (w ++ bytes)) (λ f. Counted is w)
   pub holds : (w : List ℕ) → Holds leg was w → MatchResult r (λ n. Holds leg is (w ++ bytes)) (λ f. Holds leg is w)
 
 abbrev pub FedAtOnce : {L : Type 0} → (List ℕ → L) → List ℕ → Strip L → Type 0

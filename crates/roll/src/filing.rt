@@ -13,8 +13,7 @@ use folding::fold::{Folding, Judging};
 use folding::tally::{Tally, Tallying};
 
 impl Roll {
-    // Puts a strip into a slot, in place of what was there, and answers its tally. A refusal hands
-    // the strip back.
+    // A slot's content becomes this strip, whose tally is answered. A refusal hands the strip back.
     pub fn file<M: Judging>(
         &mut self,
         lent: &mut LentMut<M>,

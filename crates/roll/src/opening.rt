@@ -47,7 +47,7 @@ impl Roll {
         }
     }
 
-    // Gives the roll n empty slots, whatever it held.
+    // The roll has n empty slots from here on; what it held is gone.
     pub fn open<M: Judging>(&mut self, lent: &mut LentMut<M>, n: usize) -> Result<(), Fault>
         ensures opens { OpensWith M.Folding.leg self.old lent.old n result self.new lent.new }
         ensures lent { StillLent lent.old lent.new }

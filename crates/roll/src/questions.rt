@@ -30,7 +30,7 @@ impl Roll {
         Ok(cells::whole(&Tallying, lent.tallies))
     }
 
-    // The first slot at whose end the text so far is lost.
+    // The lowest slot after which the text cannot be completed any more.
     pub fn culprit<M: Judging>(&self, lent: &Lent<M>) -> Result<Option<usize>, Fault>
         ensures does { AsksWith M.Folding.leg M.Judging.means
             self.now lent.now culprit (heard named result) }

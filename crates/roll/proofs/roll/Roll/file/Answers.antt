@@ -30,10 +30,10 @@ returns-clause-files g c =
       };
       keeps = λ w h p stands free.
           let lt : slot < length (texts p) = subst (λ n. slot < n) (sym (length_texts stands)) in' in (
-            ap tallied h.tallies,
-            stands_set _ _ _ p stands slot (Some w) h.bytes marks
-                (puts_even _ _ _ _ _ c.put.ensures.cells (texts p) w stands.bytes h.bytes lt stands.legs h.legs)
-                (puts_even _ _ _ _ _ c.put-2.ensures.cells (texts p) w stands.bytes h.bytes lt stands.tallies h.tallies),
+            ap tallied h.counted.tallies,
+            stands_set _ _ _ p stands slot (Some w) h.counted.bytes marks
+                (puts_even _ _ _ _ _ c.put.ensures.cells (texts p) w stands.bytes h.counted.bytes lt stands.legs h.legs)
+                (puts_even _ _ _ _ _ c.put-2.ensures.cells (texts p) w stands.bytes h.counted.bytes lt stands.tallies h.counted.tallies),
           );
     }
 
