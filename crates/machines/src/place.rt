@@ -6,7 +6,7 @@ ghost use Rattle.machines.specs.Place.Runs.{leg as leg_of, stepped};
 ghost use Rattle.machines.specs.Place.Tables.{Made, Meant};
 ghost use Rattle.machines.specs.Place.Shown.Machine.{made_inhabited};
 
-// A pattern's bytes, class or part, as this machine has them, and the machine of a whole pattern.
+// Its tables, what stands for a byte, a class or a part of a pattern, and the build of the whole.
 pub mod build;
 pub mod class_letters;
 pub mod fragment;

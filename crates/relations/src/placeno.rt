@@ -1,5 +1,5 @@
-// The numbers of the place machine's states, a type of their own: no other machine's number is taken
-// for one.
+// The numbers of the place machine's states. A type of their own, so that to mix them up with the
+// numbers of another machine's states does not compile.
 ghost use Rattle.std.specs.Prelude.{◌≡◌, ◌-◌, ◌%◌, ◌<◌, ◌≤◌, ◌⊎◌, MatchOption};
 
 use std::marker::Model;

@@ -8,7 +8,7 @@ use Rattle.machines.specs.Place.Tables.{TablesOf, Meant}
 use Rattle.machines.specs.Place.Runs.{leg}
 use Rattle.machines.specs.Soundness.{Sane, TakesSome}
 use Rattle.relations.proofs.Composing.{associative}
-use Rattle.machines.specs.Place.Shown.Machine.{meant_matches, leg_reached, made_narrow}
+use Rattle.machines.specs.Place.Shown.Machine.{meant_matches, is_leg, made_narrow}
 use Rattle.machines.specs.Place.Shown.Running.{leg_joined}
 use Rattle.machines.specs.Place.Shown.Spelling.{meant_spelled, spelled_meant}
 use Rattle.machines.specs.Place.Shown.Spread.{spread_linear}
@@ -23,7 +23,7 @@ pub means_exactly : MeansExactly
 means_exactly e t sane of = meant_matches t ∣ (e, sane, of) ∣₁ e sane of
 
 pub reaches_exactly : ReachesExactly
-reaches_exactly e t sane of = leg_reached e sane t of
+reaches_exactly e t sane of = is_leg e sane t of
 
 joins_exactly : JoinsExactly
 joins_exactly t made v w bytes = leg_joined t v w (made_narrow t made v bytes)

@@ -16,15 +16,15 @@ use Rattle.machines.specs.Place.Spellings.{Place, spread, Spelling, SpellingFrom
 use Rattle.machines.proofs.PlaceLemmas.Later.{later_tables}
 use Rattle.machines.proofs.PlaceLemmas.Either.{either_tables}
 use Rattle.machines.proofs.PlaceLemmas.Optional.{optional_tables}
-use Rattle.machines.proofs.PlaceLemmas.Smallest.{empty_tables, single_tables}
+use Rattle.machines.proofs.PlaceLemmas.Smallest.{nothing_tables, place_tables}
 use Rattle.machines.proofs.PlaceLemmas.Star.{star_tables}
 use Rattle.machines.proofs.PlaceLemmas.Then.{then_tables}
 use Rattle.machines.proofs.PlaceLemmas.Moving.{spread_moves}
 use Rattle.machines.specs.Place.Shown.Spread.{spread_linear}
 use Rattle.machines.proofs.PlaceLemmas.Tabling.{TablesFor, of_for, for_of}
 
-pub empty_part : (t : Tables) → TablesBy t (λ q p. ⊥) (λ c p. ⊥) (λ p. p ≡ 0) → Represents empty t 0
-empty_part t by = record { sane = tt; count = refl; tables = λ few. of_for empty t few (empty_tables t by) }
+pub nothing_part : (t : Tables) → TablesBy t (λ q p. ⊥) (λ c p. ⊥) (λ p. p ≡ 0) → Represents empty t 0
+nothing_part t by = record { sane = tt; count = refl; tables = λ few. of_for empty t few (nothing_tables t by) }
 
 -- one place, by the bytes that it takes
 pub place_part : (s : Symbol) (takes : List ℕ) (t : Tables) → TakesSome s → LettersOf s takes → TablesBy t (λ q p. (q ≡ 0) × (p ≡ 1)) (λ c p. Has (get_or takes c 0) p) (λ p. p ≡ 1) → Represents (one s) t 1
@@ -33,7 +33,7 @@ place_part s takes t some letters by = record {
   count = refl;
   tables = λ few.
       of_for (one s) t few
-      (single_tables s t
+      (place_tables s t
       (record {
         rows = by.rows;
         takes = λ c p lt. (λ h. (letters c p lt).0 ((by.takes c p lt).0 h), λ h. (by.takes c p lt).1 ((letters c p lt).1 h));

@@ -1,4 +1,4 @@
--- The tables of the empty text and of one place. Assumes nothing.
+-- The tables of the empty text and of one place. Assumes no_member.
 use Rattle.std.proofs.Common.{◌≡◌, ℕ, ◌<◌, ◌↔◌, List, [], ◌∷◌, get_or, set, replicate, sym, refl, ap, ◌∙◌, subst, ⊎_elim, get_or-set_other, arith}
 use Rattle.std.proofs.lemmas.List.{get_or-replicate}
 use Rattle.std.proofs.lemmas.Bool.{cases_eq}
@@ -17,13 +17,13 @@ use Rattle.machines.proofs.PlaceLemmas.Tabling.{TablesFor}
 
 -- What is written into the rows.
 
-nothing : (n q p : ℕ) → q < n → Has (get_or (replicate n 0) q 0) p → ⊥
-nothing n q p lt h = zero_has p (subst (λ x. Has x p) (get_or-replicate n q 0 0 lt) h)
+no_member : (n q p : ℕ) → q < n → Has (get_or (replicate n 0) q 0) p → ⊥
+no_member n q p lt h = zero_has p (subst (λ x. Has x p) (get_or-replicate n q 0 0 lt) h)
 
-pub none_by : (start : ℕ) → SetOf start (λ p. p ≡ 0) → TablesBy (record { follow = replicate 64 0; takes = replicate 256 0; accepts = start }) (λ q p. ⊥) (λ c p. ⊥) (λ p. p ≡ 0)
-none_by start zeroth = record {
-  rows = λ q p lt. (nothing 64 q p lt, λ h. absurd h);
-  takes = λ c p lt. (nothing 256 c p lt, λ h. absurd h);
+pub nothing_by : (start : ℕ) → SetOf start (λ p. p ≡ 0) → TablesBy (record { follow = replicate 64 0; takes = replicate 256 0; accepts = start }) (λ q p. ⊥) (λ c p. ⊥) (λ p. p ≡ 0)
+nothing_by start zeroth = record {
+  rows = λ q p lt. (no_member 64 q p lt, λ h. absurd h);
+  takes = λ c p lt. (no_member 256 c p lt, λ h. absurd h);
   accepts = zeroth.at;
 }
 
@@ -46,8 +46,8 @@ module _ (place : ℕ) (one : SetOf place (λ p. p ≡ 1)) where
 
 -- No place: only state 0 accepts.
 
-pub empty_tables : (r : Tables) → TablesBy r (λ q p. ⊥) (λ c p. ⊥) (λ p. p ≡ 0) → TablesFor Empty r
-empty_tables r by = record {
+pub nothing_tables : (r : Tables) → TablesBy r (λ q p. ⊥) (λ c p. ⊥) (λ p. p ≡ 0) → TablesFor Empty r
+nothing_tables r by = record {
   first = λ p. (λ h. absurd ((by.rows 0 p (omega arith)).0 h), λ f. absurd (none_on (p, f.0) (on_first Empty (p, f.0) f.1)));
   follow = λ q p low high. (λ h. absurd ((by.rows q p high).0 h), λ f. absurd (none_on (q, f.0) (on_before Empty (q, f.0) (p, f.1) f.2)));
   takes = λ c p byte. (λ h. absurd ((by.takes c p byte).0 h), λ f. absurd (none_on (p, f.0) f.1));
@@ -57,8 +57,8 @@ empty_tables r by = record {
 
 -- Place 1 alone.
 
-pub single_tables : (s : Symbol) (r : Tables) → TablesBy r (λ q p. (q ≡ 0) × (p ≡ 1)) (λ c p. (p ≡ 1) × Takes s c) (λ p. p ≡ 1) → TablesFor (Single (1, s)) r
-single_tables s r by = record {
+pub place_tables : (s : Symbol) (r : Tables) → TablesBy r (λ q p. (q ≡ 0) × (p ≡ 1)) (λ c p. (p ≡ 1) × Takes s c) (λ p. p ≡ 1) → TablesFor (Single (1, s)) r
+place_tables s r by = record {
   first = λ p. (
     λ h. (s, ([], here p ((by.rows 0 p (omega arith)).0 h).1)),
     λ f. (by.rows 0 p (omega arith)).1 (refl, sym (number p f.0 (on_first (Single (1, s)) (p, f.0) f.1))),

@@ -105,7 +105,7 @@ impl Assembly for Fragment {
     fn nothing() -> Fragment {
         Fragment {
             part: Some(Numbered {
-                tables: Tables::none(),
+                tables: Tables::nothing(),
                 count: 0,
             }),
         }

@@ -27,7 +27,7 @@ impl Tables {
     }
 
     // No place: only the empty text.
-    pub(crate) fn none() -> Tables
+    pub(crate) fn nothing() -> Tables
         ensures members { TablesBy result (λ _ _. ⊥) (λ _ _. ⊥) (λ p. p ≡ 0) }
     {
         Tables {

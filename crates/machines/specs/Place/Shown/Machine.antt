@@ -53,8 +53,8 @@ module _ (e : Regex) (sane : Sane e) (t : Tables) (of : TablesOf e t) where
   reaches_by [] q p bytes low r = r
   reaches_by (c ∷ w) q p bytes low (m, l, more) = (m, leads_by q c m bytes.0 low l, reaches_by w m p bytes.1 (leads_high q c m l) more)
 
-  pub leg_reached : (w : List ℕ) → Bytes w → IsLeg e (leg t w) w
-  leg_reached w bytes q p low = (λ h. by_reaches w q p bytes (leg_has t w q p low h), λ r. has_leg t w q p low (reaches_by w q p bytes low r))
+  pub is_leg : (w : List ℕ) → Bytes w → IsLeg e (leg t w) w
+  is_leg w bytes q p low = (λ h. by_reaches w q p bytes (leg_has t w q p low h), λ r. has_leg t w q p low (reaches_by w q p bytes low r))
 
   reaches_high : (w : List ℕ) (q p : ℕ) → q < 64 → Reaches e w q p → p < 64
   reaches_high [] q p low r = subst (λ x. x < 64) r low
