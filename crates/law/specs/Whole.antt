@@ -7,7 +7,7 @@ use Rattle.folding.specs.Texts.{Bytes}
 use Rattle.pattern.specs.Expressions.{Regex}
 use Rattle.pattern.specs.Meaning.{Matches}
 use Rattle.pattern.specs.Reading.{ReadAs, Readable}
-use Rattle.machines.specs.Built.{Built}
+use Rattle.machines.specs.Place.Built.{Built}
 use Rattle.machines.specs.contracts.place.PlaceMachineFolding.TheImpl.{ghosts as place_folding}
 use Rattle.machines.specs.contracts.place.PlaceMachineJudging.TheImpl.{ghosts as place_judging}
 use Rattle.machines.specs.declared.place.PlaceMachine.{PlaceMachine}

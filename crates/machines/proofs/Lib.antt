@@ -1,14 +1,1 @@
-pub mod ClassSymbols
-pub mod Combining
-pub mod Copies
-pub mod Filling
-pub mod Later
-pub mod Lawful
-pub mod Lettering
-pub mod Looping
-pub mod Moving
-pub mod Parts
-pub mod Shifts
-pub mod Standing
-pub mod Tabling
-pub mod Uniting
+pub mod PlaceLemmas

@@ -1,15 +1,2 @@
-pub mod Building
-pub mod Built
-pub mod ClassLetters
-pub mod Fragments
-pub mod Laws
-pub mod Letters
-pub mod Making
-pub mod Masks
-pub mod PlaceTables
-pub mod Relations
-pub mod Runs
-pub mod Shown
+pub mod Place
 pub mod Soundness
-pub mod Spellings
-pub mod Standing

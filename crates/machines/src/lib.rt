@@ -1,16 +1,8 @@
-// The machines that are built from a pattern.
+// The machines that are built from a pattern, a file and a folder to each.
 #![tactic(auto)]
 
-pub mod assembling;
-pub mod class_letters;
-mod combine;
-pub mod fragment;
-pub mod letters;
-pub mod masks;
+// The place machine: `place/build.rt` builds it.
 pub mod place;
-pub mod placeno;
-pub mod relation;
-pub mod tables;
 
-pub use crate::assembling::build;
 pub use crate::place::PlaceMachine;
+pub use crate::place::build::build;

@@ -1,17 +1,24 @@
 // The place machine (the position automaton, Glushkov's): a judging machine whose leg of a text is
 // the relation between states that the text makes.
 ghost use Rattle.std.specs.Prelude.{◌≡◌};
-ghost use Rattle.machines.specs.PlaceTables.{Made, Meant};
-ghost use Rattle.machines.specs.Relations.{row as row_of};
-ghost use Rattle.machines.specs.Runs.{leg as leg_of, moved};
-ghost use Rattle.machines.specs.Shown.Machine.{made_inhabited};
+ghost use Rattle.relations.specs.Relations.{row as row_of};
+ghost use Rattle.machines.specs.Place.Runs.{leg as leg_of, stepped};
+ghost use Rattle.machines.specs.Place.Tables.{Made, Meant};
+ghost use Rattle.machines.specs.Place.Shown.Machine.{made_inhabited};
 
-use crate::fragment::Numbered;
-use crate::masks;
-use crate::placeno::PlaceNo;
-use crate::relation::Relation;
-use crate::tables::Tables;
+// Its tables, what stands for a byte, a class or a part of a pattern, and the build of the whole.
+pub mod build;
+pub mod class_letters;
+pub mod fragment;
+pub mod letters;
+pub mod tables;
+
+use crate::place::fragment::Numbered;
+use crate::place::tables::Tables;
 use folding::fold::{Folding, Judging};
+use relations::masks;
+use relations::placeno::PlaceNo;
+use relations::relation::Relation;
 use std::array;
 
 #[derive(Clone, Copy)]
@@ -31,9 +38,9 @@ impl PlaceMachine {
 
     // Not by `Relation::then`: the byte's mask would then need a pass of its own, which is no plainer.
     fn step_row(&self, at: &Relation, c: u8, q: PlaceNo) -> u64
-        ensures value { result ≡ moved self.now.tables (row_of at.now q) c }
+        ensures value { result ≡ stepped self.now.tables (row_of at.now q) c }
     {
-        masks::gather(&self.tables.follow, at.row(q)) & self.tables.takes[usize::from(c)]
+        masks::image(&self.tables.follow, at.row(q)) & self.tables.takes[usize::from(c)]
     }
 }
 

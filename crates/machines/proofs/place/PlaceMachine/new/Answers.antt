@@ -1,4 +1,4 @@
-use Rattle.machines.proofs.Parts.{part_made}
+use Rattle.machines.proofs.PlaceLemmas.Parts.{part_made}
 use Rattle.machines.proofs.place.PlaceMachine.new.Goals as goal
 
 pub invariant_of-result : goal.invariant_of-result

@@ -1,5 +1,5 @@
 use Rattle.std.proofs.Common.{◌∙◌}
-use Rattle.machines.specs.Shown.Running.{leg_none}
+use Rattle.machines.specs.Place.Shown.Running.{leg_none}
 use Rattle.machines.proofs.place.PlaceMachineFolding.empty.Goals as goal
 
 pub returns : goal.returns

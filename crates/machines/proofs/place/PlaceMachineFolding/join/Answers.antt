@@ -1,7 +1,7 @@
 use Rattle.std.proofs.Common.{sym, ◌∙◌, ap₂}
-use Rattle.machines.specs.Relations.{composed}
-use Rattle.machines.specs.Shown.Machine.{made_narrow}
-use Rattle.machines.specs.Shown.Running.{leg_joined}
+use Rattle.relations.specs.Relations.{composed}
+use Rattle.machines.specs.Place.Shown.Machine.{made_narrow}
+use Rattle.machines.specs.Place.Shown.Running.{leg_joined}
 use Rattle.machines.proofs.place.PlaceMachineFolding.join.Goals as goal
 
 pub returns : goal.returns

@@ -1,6 +1,6 @@
 use Rattle.std.proofs.Common.{ap, ◌∙◌}
-use Rattle.machines.specs.Relations.{row}
-use Rattle.machines.specs.Shown.Machine.{accepts_decides}
+use Rattle.relations.specs.Relations.{row}
+use Rattle.machines.specs.Place.Shown.Machine.{accepts_decides}
 use Rattle.machines.proofs.place.PlaceMachineJudging.accepts.Goals as goal
 
 pub returns : goal.returns

@@ -1,6 +1,6 @@
 use Rattle.std.proofs.Common.{ap, ◌∙◌}
-use Rattle.machines.specs.Relations.{row}
-use Rattle.machines.specs.Shown.Machine.{lost_cases}
+use Rattle.relations.specs.Relations.{row}
+use Rattle.machines.specs.Place.Shown.Machine.{lost_cases}
 use Rattle.machines.proofs.place.PlaceMachineJudging.lost.Goals as goal
 
 pub returns : goal.returns

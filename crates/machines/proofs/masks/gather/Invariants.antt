@@ -1,8 +1,0 @@
-use Rattle.machines.specs.Shown.Gathering.{Left}
-use Rattle.machines.proofs.masks.gather.Given as goal
-
-abbrev pub invariant-loop-rest : goal.invariant-loop-rest
-invariant-loop-rest l = Left l.rows l.set l.rest l.all
-
-abbrev pub decreases-loop-rest : goal.decreases-loop-rest
-decreases-loop-rest l = l.rest

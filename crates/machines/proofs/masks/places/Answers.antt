@@ -1,5 +1,0 @@
-use Rattle.machines.proofs.Shifts.{places_members}
-use Rattle.machines.proofs.masks.places.Goals as goal
-
-pub returns : goal.returns
-returns c = record { members = record { at = λ p. places_members c.args.set p c.ranges.set.fits } }

@@ -1,0 +1,10 @@
+use Rattle.std.proofs.Common.{rules}
+use Rattle.pattern.specs.Expressions.{star}
+use Rattle.machines.proofs.PlaceLemmas.Parts.{star_changes}
+use Rattle.machines.proofs.place.fragment.FragmentAssembly.star.Goals as goal
+
+pub changed-requires-clause-makes : goal.changed-requires-clause-makes
+changed-requires-clause-makes c = ∣ (star, star_changes _ (λ a r (p, h, same). (p.now, search rules, same))) ∣₁
+
+pub returns : goal.returns
+returns c = record { value = c.changed.ensures.value star (star_changes _ (λ a r (p, h, same). (p.now, search rules, same))) }

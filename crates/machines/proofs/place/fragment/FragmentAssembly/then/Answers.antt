@@ -1,0 +1,10 @@
+use Rattle.std.proofs.Common.{rules}
+use Rattle.pattern.specs.Expressions.{seq}
+use Rattle.machines.proofs.PlaceLemmas.Parts.{then_combines}
+use Rattle.machines.proofs.place.fragment.FragmentAssembly.then.Goals as goal
+
+pub combined-requires-clause-makes : goal.combined-requires-clause-makes
+combined-requires-clause-makes c = ∣ (seq, then_combines _ (λ a b r (p, q, h, first, second). (p.now, q.now, search rules, first, second))) ∣₁
+
+pub returns : goal.returns
+returns c = record { value = c.combined.ensures.value seq (then_combines _ (λ a b r (p, q, h, first, second). (p.now, q.now, search rules, first, second))) }

@@ -1,8 +1,0 @@
-use Rattle.std.proofs.Common.{◌∙◌}
-use Rattle.machines.proofs.Combining.{place_by}
-use Rattle.machines.proofs.tables.Tables.place.Goals as goal
-
-pub returns : goal.returns
-returns c = record {
-  members = place_by c.single-place.result (rw c.nth.ensures.value at c.single-place.ensures.members) c.args.takes c.from.result (c.from.ensures.0 ∙ c.start.ensures.value);
-}
