@@ -3,11 +3,11 @@ use Rattle.std.proofs.Common.{◌≡◌, ℕ, false, cond, ◌&&◌, eqb, leb, L
 use Rattle.std.proofs.lemmas.Bool.{cond_both, true≢false, eqb-true}
 use Rattle.pattern.specs.declared.class.Progress.{Progress}
 use Rattle.pattern.specs.declared.class.Progress.TheVariants.{Empty, Between, Member, Dash, Escape, DashEscape}
-use Rattle.pattern.specs.Characters.{ClassKind, ends, slash, hyphen, barred, itself, kind_is_itself, class_kind, escapable}
-use Rattle.pattern.specs.Expressions.{Range}
-use Rattle.pattern.specs.Automaton.{fresh, in_escape, member, dashed, dashed_escape, ClassNext, no_class, inside, finished, class_next}
+use Rattle.notation.specs.Characters.{ClassKind, ends, slash, hyphen, barred, itself, kind_is_itself, class_kind, escapable}
+use Rattle.notation.specs.Expressions.{Range}
+use Rattle.notation.specs.Automaton.{fresh, in_escape, member, dashed, dashed_escape, ClassNext, no_class, inside, finished, class_next}
 use Rattle.pattern.specs.Classes.{state_of, done_by}
-use Rattle.pattern.proofs.Chars.{InClass, in_class_lem}
+use Rattle.notation.proofs.Chars.{InClass, in_class_lem}
 
 -- the members after the byte
 abbrev pub Done : ClassNext → List Range → Type 0

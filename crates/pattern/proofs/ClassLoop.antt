@@ -7,19 +7,19 @@ use Rattle.fault.specs.declared.Refusal.TheVariants.{BadlyWritten}
 use Rattle.pattern.specs.declared.class.Progress.{Progress}
 use Rattle.pattern.specs.declared.class.Progress.TheVariants.{Empty}
 use Rattle.pattern.specs.declared.class.Taken.TheVariants.{Inside, Ended}
-use Rattle.pattern.specs.Expressions.{Range, one}
-use Rattle.pattern.specs.Grammar.{Members, none}
-use Rattle.pattern.specs.Characters.{class_kind}
-use Rattle.pattern.specs.Automaton.{Frame, state, opened, after, bad, in_class, fresh, class_next, of_class, inside, verdict}
+use Rattle.notation.specs.Expressions.{Range, one}
+use Rattle.notation.specs.Grammar.{Members, none}
+use Rattle.notation.specs.Characters.{class_kind}
+use Rattle.notation.specs.Automaton.{Frame, state, opened, after, bad, in_class, fresh, class_next, of_class, inside, verdict}
 use Rattle.pattern.specs.Classes.{state_of, Suits, Follows, ClassRead, ClassStops, ClassRefused}
-use Rattle.pattern.specs.Refusals.{refused}
-use Rattle.pattern.proofs.Seen.{Class}
-use Rattle.pattern.proofs.ClassSeen.{class_goes, Goes}
+use Rattle.notation.specs.Refusals.{refused}
+use Rattle.notation.proofs.Seen.{Class}
+use Rattle.notation.proofs.ClassSeen.{class_goes, Goes}
 use Rattle.pattern.proofs.Slices.{drop_is, stops_at, stopped, split_at}
-use Rattle.pattern.proofs.Runs.{verdict_alive, verdict_end}
-use Rattle.pattern.proofs.ClassRuns.{class_runs}
-use Rattle.pattern.proofs.Sounds.{never}
-use Rattle.pattern.proofs.Faults.{unread}
+use Rattle.notation.proofs.Runs.{verdict_alive, verdict_end}
+use Rattle.notation.proofs.ClassRuns.{class_runs}
+use Rattle.notation.proofs.Sounds.{never}
+use Rattle.notation.proofs.Faults.{unread}
 
 -- no class ends before i
 abbrev Open : List ℕ → ℕ → ℕ → Type 0

@@ -5,12 +5,12 @@ use Rattle.pattern.specs.declared.class.Progress.{Progress}
 use Rattle.pattern.specs.declared.class.Progress.TheVariants.{Empty}
 use Rattle.pattern.specs.declared.class.Taken.{Taken}
 use Rattle.pattern.specs.declared.class.Taken.TheVariants.{Inside, Ended}
-use Rattle.pattern.specs.Characters.{class_kind}
-use Rattle.pattern.specs.Expressions.{Range}
-use Rattle.pattern.specs.Grammar.{Members}
-use Rattle.pattern.specs.Automaton.{inside, finished, class_next}
+use Rattle.notation.specs.Characters.{class_kind}
+use Rattle.notation.specs.Expressions.{Range}
+use Rattle.notation.specs.Grammar.{Members}
+use Rattle.notation.specs.Automaton.{inside, finished, class_next}
 use Rattle.pattern.specs.Classes.{state_of, Suits, Follows, done_by}
-use Rattle.pattern.proofs.ClassRuns.{class_run, run_on, run_end, run_past, run_dead, class_finishes, not_finished}
+use Rattle.notation.proofs.ClassRuns.{class_run, run_on, run_end, run_past, run_dead, class_finishes, not_finished}
 use Rattle.pattern.proofs.Slices.{drop_is}
 use Rattle.pattern.proofs.ClassDone.{Done, next_done}
 

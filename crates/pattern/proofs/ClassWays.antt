@@ -5,10 +5,10 @@ use Rattle.pattern.specs.declared.class.Progress.{Progress}
 use Rattle.pattern.specs.declared.class.Progress.TheVariants.{Between, Member, Dash, Escape, DashEscape}
 use Rattle.pattern.specs.declared.class.Taken.{Taken}
 use Rattle.pattern.specs.declared.class.Taken.TheVariants.{Inside, Ended}
-use Rattle.pattern.specs.Characters.{ClassKind, ends, slash, hyphen, barred, itself, kind_is_itself, class_kind, escapable}
-use Rattle.pattern.specs.Automaton.{class_next, fresh, member, dashed}
+use Rattle.notation.specs.Characters.{ClassKind, ends, slash, hyphen, barred, itself, kind_is_itself, class_kind, escapable}
+use Rattle.notation.specs.Automaton.{class_next, fresh, member, dashed}
 use Rattle.pattern.specs.Classes.{Follows}
-use Rattle.pattern.proofs.ClassRuns.{push_some}
+use Rattle.notation.proofs.ClassRuns.{push_some}
 
 -- a byte that stands for itself in a class
 pub itself_is : (k : ClassKind) → true ≡ kind_is_itself k → k ≡ itself

@@ -7,14 +7,14 @@ use Rattle.std.proofs.lemmas.List.{take_at, take_all, get_or_at, get_or_append_l
 use Rattle.std.proofs.lemmas.Bool.{cond-false, lt-leb, cases_lt}
 use Rattle.fault.specs.declared.Fault.{Fault}
 use Rattle.fault.specs.declared.Refusal.TheVariants.{BadlyWritten}
-use Rattle.pattern.specs.Expressions.{empty}
-use Rattle.pattern.specs.Grammar.{Counts, exactly, between}
-use Rattle.pattern.specs.Automaton.{state, in_count, awaiting, digits, CountKind, digit, comma, ended, other, no_count, least, most, count_can_go_on, count_next, of_count, opened, bad, verdict}
-use Rattle.pattern.specs.Refusals.{Stops, refused}
+use Rattle.notation.specs.Expressions.{empty}
+use Rattle.notation.specs.Grammar.{Counts, exactly, between}
+use Rattle.notation.specs.Automaton.{state, in_count, awaiting, digits, CountKind, digit, comma, ended, other, no_count, least, most, count_can_go_on, count_next, of_count, opened, bad, verdict}
+use Rattle.notation.specs.Refusals.{Stops, refused}
 use Rattle.pattern.specs.Repeats.{NumberRead, NumberRefused, Braced, CountsRead, CountsStop, CountsRefused}
-use Rattle.pattern.proofs.Chars.{InCount, in_count_lem}
-use Rattle.pattern.proofs.CountRuns.{counts_run, decimal_two}
-use Rattle.pattern.proofs.Faults.{unread}
+use Rattle.notation.proofs.Chars.{InCount, in_count_lem}
+use Rattle.notation.proofs.CountRuns.{counts_run, decimal_two}
+use Rattle.notation.proofs.Faults.{unread}
 use Rattle.pattern.proofs.Slices.{drop_is, moves, stops_at, stopped}
 
 -- after the first count only a brace or a comma goes on

@@ -2,8 +2,8 @@
 use Rattle.std.proofs.Common.{◌≡◌, Bool, true, Option, None, Some, is_some, refl}
 use Rattle.std.specs.Option.{IsSomeAnd}
 use Rattle.pattern.specs.declared.draft.Draft.{Draft}
-use Rattle.pattern.specs.Expressions.{Regex, seq}
-use Rattle.pattern.specs.Automaton.{Mode, ready, after, escape, in_class, in_count, Frame, frame, first, later, push}
+use Rattle.notation.specs.Expressions.{Regex, seq}
+use Rattle.notation.specs.Automaton.{Mode, ready, after, escape, in_class, in_count, Frame, frame, first, later, push}
 use Rattle.pattern.specs.Drafts.{Opens, Keeps}
 use Rattle.pattern.specs.Signs.{Waits}
 

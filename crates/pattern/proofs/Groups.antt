@@ -2,10 +2,10 @@
 use Rattle.std.proofs.Common.{◌≡◌, ℕ, suc, ◌+◌, ◌<◌, ◌≤◌, List, ◌∷◌, length, get_or, drop, sym, refl, ◌∙◌, subst, arith}
 use Rattle.fault.specs.declared.Fault.{Fault}
 use Rattle.fault.specs.declared.Refusal.TheVariants.{BadlyWritten}
-use Rattle.pattern.specs.Characters.{kind}
-use Rattle.pattern.specs.Expressions.{Regex}
-use Rattle.pattern.specs.Automaton.{Frame, ready, after, state, opened, closed, begin, verdict}
-use Rattle.pattern.specs.Refusals.{Stops, refused}
+use Rattle.notation.specs.Characters.{kind}
+use Rattle.notation.specs.Expressions.{Regex}
+use Rattle.notation.specs.Automaton.{Frame, ready, after, state, opened, closed, begin, verdict}
+use Rattle.notation.specs.Refusals.{Stops, refused}
 use Rattle.pattern.specs.Walks.{GroupRead, GroupStops, AlternativesRead, AlternativesStop}
 use Rattle.pattern.proofs.Slices.{moves, stops_inside, stops_at, stopped}
 

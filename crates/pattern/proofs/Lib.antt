@@ -1,16 +1,4 @@
 pub mod Exits
-pub mod Chars
-pub mod Runs
-pub mod ClassRuns
-pub mod CountRuns
-pub mod Completes
-pub mod Seen
-pub mod ClassSeen
-pub mod CountSeen
-pub mod Steps
-pub mod Sounds
-pub mod Endings
-pub mod Faults
 pub mod Slices
 pub mod Numbers
 pub mod CountWays
@@ -24,6 +12,5 @@ pub mod Walking
 pub mod Groups
 pub mod SignSteps
 pub mod Outcomes
-pub mod Worked
 pub mod SignShapes
 pub mod OneByteSigns

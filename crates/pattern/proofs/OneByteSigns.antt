@@ -5,11 +5,11 @@ use Rattle.std.proofs.lemmas.Result.{MatchResult-weaker}
 use Rattle.fault.specs.declared.Fault.{Fault}
 use Rattle.fault.specs.declared.Refusal.TheVariants.{BadlyWritten}
 use Rattle.pattern.specs.declared.sign.Sign.{Sign}
-use Rattle.pattern.specs.Characters.{kind}
-use Rattle.pattern.specs.Automaton.{Frame, dead, begin}
-use Rattle.pattern.specs.Refusals.{refused}
+use Rattle.notation.specs.Characters.{kind}
+use Rattle.notation.specs.Automaton.{Frame, dead, begin}
+use Rattle.notation.specs.Refusals.{refused}
 use Rattle.pattern.specs.Signs.{text, is_end, Formed, Handed, SignRefused}
-use Rattle.pattern.proofs.Runs.{is_repeat}
+use Rattle.notation.proofs.Runs.{is_repeat}
 use Rattle.pattern.proofs.SignWays.{one_part, never_here, nothing_to_repeat}
 use Rattle.pattern.proofs.SignShapes.{Shape, none_here}
 

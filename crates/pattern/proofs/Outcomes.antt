@@ -4,20 +4,20 @@ use Rattle.std.proofs.ByRecursion.{All-from_get_or}
 use Rattle.std.proofs.lemmas.List.{drop_all}
 use Rattle.fault.specs.declared.Fault.{Fault}
 use Rattle.fault.specs.declared.Refusal.TheVariants.{BadlyWritten, TooManyPlaces}
-use Rattle.pattern.specs.Characters.{kind}
-use Rattle.pattern.specs.Places.{places}
-use Rattle.pattern.specs.Expressions.{Regex, empty}
-use Rattle.pattern.specs.Grammar.{Written, lone, nothing}
-use Rattle.pattern.specs.Beginnings.{LongestBeginning}
-use Rattle.pattern.specs.Automaton.{closed, begin, verdict, start}
-use Rattle.pattern.specs.Refusals.{Stops, refused}
-use Rattle.pattern.specs.Reading.{Granted, Readable, Bad, Unwritten, Refused, Assembled}
+use Rattle.notation.specs.Characters.{kind}
+use Rattle.notation.specs.Places.{places}
+use Rattle.notation.specs.Expressions.{Regex, empty}
+use Rattle.notation.specs.Grammar.{Written, lone, nothing}
+use Rattle.notation.specs.Beginnings.{LongestBeginning}
+use Rattle.notation.specs.Automaton.{closed, begin, verdict, start}
+use Rattle.notation.specs.Refusals.{Stops, refused}
+use Rattle.notation.specs.Reading.{Granted, Readable, Bad, Unwritten, Refused, Assembled}
 use Rattle.pattern.specs.Walks.{AlternativesRead, AlternativesStop}
-use Rattle.pattern.proofs.Runs.{verdict_end}
+use Rattle.notation.proofs.Runs.{verdict_end}
 use Rattle.pattern.proofs.Slices.{stops_inside, stopped}
-use Rattle.pattern.proofs.Sounds.{Bytes, sound}
-use Rattle.pattern.proofs.Completes.{one_reading}
-use Rattle.pattern.proofs.Faults.{longest, not_written}
+use Rattle.notation.proofs.Sounds.{Bytes, sound}
+use Rattle.notation.proofs.Completes.{one_reading}
+use Rattle.notation.proofs.Faults.{longest, not_written}
 
 pub bytes_slice : (p : List ℕ) → ((i : ℕ) → Fits w8 (get_or p i 0)) → Bytes p
 bytes_slice p fits = All-from_get_or (λ b. b < 256) p 0 (λ i _. (fits i).fits)

@@ -2,17 +2,17 @@
 use Rattle.std.proofs.Common.{◌≡◌, ℕ, ◌+◌, ◌<◌, ◌≤◌, Bool, true, false, List, [], ◌∷◌, ◌++◌, length, drop, sym, refl, ap, ◌∙◌, subst, append_assoc, arith, Bor}
 use Rattle.pattern.specs.declared.sign.Sign.{Sign}
 use Rattle.pattern.specs.declared.sign.Sign.TheVariants.{Plain, Escape, Any, Class, Bar, Star, Plus, Question, Counted}
-use Rattle.pattern.specs.Characters.{kind, plain, escapable}
-use Rattle.pattern.specs.Expressions.{Range, Regex, one, byte, any, star, plus, opt, counted}
-use Rattle.pattern.specs.Grammar.{Members, Counts, exactly, between, Repeated, by_star, by_plus, by_opt, by_count}
-use Rattle.pattern.specs.Automaton.{Frame, Mode, ready, after, in_class, fresh, state, begin, verdict}
+use Rattle.notation.specs.Characters.{kind, plain, escapable}
+use Rattle.notation.specs.Expressions.{Range, Regex, one, byte, any, star, plus, opt, counted}
+use Rattle.notation.specs.Grammar.{Members, Counts, exactly, between, Repeated, by_star, by_plus, by_opt, by_count}
+use Rattle.notation.specs.Automaton.{Frame, Mode, ready, after, in_class, fresh, state, begin, verdict}
 use Rattle.pattern.specs.Drafts.{AtomKept, BarKept, RepeatKept}
 use Rattle.pattern.specs.Signs.{text, is_end, Formed, Handed, Waits}
 use Rattle.pattern.specs.Repeats.{Braced}
 use Rattle.pattern.specs.Walks.{Leads, Steps, GroupRead}
-use Rattle.pattern.proofs.Runs.{NoRepeat, is_repeat, verdict_alive}
-use Rattle.pattern.proofs.ClassRuns.{class_runs}
-use Rattle.pattern.proofs.Completes.{escape_runs}
+use Rattle.notation.proofs.Runs.{NoRepeat, is_repeat, verdict_alive}
+use Rattle.notation.proofs.ClassRuns.{class_runs}
+use Rattle.notation.proofs.Completes.{escape_runs}
 use Rattle.pattern.proofs.Walking.{inside, part_within, atom_leads, bar_leads, repeat_leads}
 
 -- a sign of one byte that was handed out

@@ -3,13 +3,13 @@ use Rattle.std.proofs.Common.{◌≡◌, ℕ, ◌+◌, ◌-◌, ◌<◌, Bool, t
 use Rattle.std.proofs.lemmas.Bool.{cond-false, ne_eqb}
 use Rattle.fault.specs.declared.Fault.{Fault}
 use Rattle.fault.specs.declared.Refusal.TheVariants.{BadlyWritten}
-use Rattle.pattern.specs.Characters.{kind, plain, escapable}
-use Rattle.pattern.specs.Automaton.{Frame, Mode, ready, after, escape, in_class, in_count, fresh, awaiting, least, state, dead, alive, push, begin, repeat_or, step, verdict}
-use Rattle.pattern.specs.Refusals.{Stops, refused}
+use Rattle.notation.specs.Characters.{kind, plain, escapable}
+use Rattle.notation.specs.Automaton.{Frame, Mode, ready, after, escape, in_class, in_count, fresh, awaiting, least, state, dead, alive, push, begin, repeat_or, step, verdict}
+use Rattle.notation.specs.Refusals.{Stops, refused}
 use Rattle.pattern.specs.Signs.{Waits, SignStops}
 use Rattle.pattern.specs.Classes.{ClassRead, ClassStops}
 use Rattle.pattern.specs.Repeats.{CountsRead, CountsStop}
-use Rattle.pattern.proofs.Runs.{is_repeat, settled}
+use Rattle.notation.proofs.Runs.{is_repeat, settled}
 use Rattle.pattern.proofs.Slices.{drop_is, moves, stops_inside, stops_at, stopped, split_at, slice_part, slice_is, part_length}
 
 -- a byte that is none of the twelve special characters

@@ -4,9 +4,9 @@ use Rattle.std.proofs.lemmas.List.{drop_more, drop_all, drop-drop, get_or-drop, 
 use Rattle.std.proofs.lemmas.Bool.{cases_lt}
 use Rattle.fault.specs.declared.Fault.{Fault}
 use Rattle.fault.specs.declared.Refusal.TheVariants.{BadlyWritten}
-use Rattle.pattern.specs.Refusals.{Stops, refused}
-use Rattle.pattern.specs.Automaton.{State, Outcome, bad, dead, alive, step_of, finish, verdict}
-use Rattle.pattern.proofs.Runs.{verdict_alive, verdict_dead, verdict_end}
+use Rattle.notation.specs.Refusals.{Stops, refused}
+use Rattle.notation.specs.Automaton.{State, Outcome, bad, dead, alive, step_of, finish, verdict}
+use Rattle.notation.proofs.Runs.{verdict_alive, verdict_dead, verdict_end}
 
 module _ (p : List ℕ) where
   pub drop_is : (at b : ℕ) → at < length p → get_or p at 0 ≡ b → drop at p ≡ b ∷ drop (at + 1) p

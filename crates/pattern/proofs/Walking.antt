@@ -3,15 +3,15 @@ use Rattle.std.proofs.Common.{◌≡◌, ℕ, ◌+◌, ◌-◌, ◌<◌, ◌≤�
 use Rattle.std.proofs.lemmas.List.{drop_all, drop_more}
 use Rattle.std.proofs.lemmas.Bool.{cases_lt, leb-false}
 use Rattle.fault.specs.declared.Fault.{Fault}
-use Rattle.pattern.specs.Expressions.{Regex, empty}
-use Rattle.pattern.specs.Grammar.{Repeated}
-use Rattle.pattern.specs.Automaton.{Frame, frame, later, Mode, ready, after, escape, in_class, in_count, state, push, opened, closed, verdict}
+use Rattle.notation.specs.Expressions.{Regex, empty}
+use Rattle.notation.specs.Grammar.{Repeated}
+use Rattle.notation.specs.Automaton.{Frame, frame, later, Mode, ready, after, escape, in_class, in_count, state, push, opened, closed, verdict}
 use Rattle.pattern.specs.Drafts.{settled, AtomKept, BarKept, RepeatKept, ClosedKept}
-use Rattle.pattern.specs.Refusals.{Stops}
+use Rattle.notation.specs.Refusals.{Stops}
 use Rattle.pattern.specs.Signs.{SignStops, Waits}
 use Rattle.pattern.specs.Walks.{Halts, Leads, StepStops, GroupStops, AlternativesRead, AlternativesStop}
-use Rattle.pattern.proofs.Runs.{NoRepeat, settles, verdict_alive}
-use Rattle.pattern.proofs.Completes.{repeat_runs}
+use Rattle.notation.proofs.Runs.{NoRepeat, settles, verdict_alive}
+use Rattle.notation.proofs.Completes.{repeat_runs}
 
 -- the atom in hand joins its branch
 settle_runs : (r : Bool) (m : Mode) → Waits r m → (fr : Frame) (d : ℕ) (ctx : List Frame) (w : List ℕ) → NoRepeat w → verdict (state m fr d ctx) w ≡ verdict (state ready (settled m fr) d ctx) w

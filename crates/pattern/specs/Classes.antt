@@ -9,11 +9,11 @@ use Rattle.pattern.specs.declared.class.Progress.{Progress}
 use Rattle.pattern.specs.declared.class.Progress.TheVariants.{Empty, Between, Member, Dash, Escape, DashEscape}
 use Rattle.pattern.specs.declared.class.Taken.{Taken}
 use Rattle.pattern.specs.declared.class.Taken.TheVariants.{Inside, Ended}
-use Rattle.pattern.specs.Characters.{class_kind}
-use Rattle.pattern.specs.Expressions.{Range}
-use Rattle.pattern.specs.Grammar.{Members}
-use Rattle.pattern.specs.Automaton.{Frame, state, in_class, ClassState, fresh, in_escape, member, dashed, dashed_escape, ClassNext, no_class, inside, finished, class_next, verdict}
-use Rattle.pattern.specs.Refusals.{Stops}
+use Rattle.notation.specs.Characters.{class_kind}
+use Rattle.notation.specs.Expressions.{Range}
+use Rattle.notation.specs.Grammar.{Members}
+use Rattle.notation.specs.Automaton.{Frame, state, in_class, ClassState, fresh, in_escape, member, dashed, dashed_escape, ClassNext, no_class, inside, finished, class_next, verdict}
+use Rattle.notation.specs.Refusals.{Stops}
 
 abbrev pub state_of : Progress → ClassState
 state_of Empty = fresh

@@ -6,8 +6,8 @@
 use Rattle.std.specs.Prelude.{IsNone}
 use Rattle.std.specs.Option.{IsSomeAnd}
 use Rattle.pattern.specs.declared.draft.Draft.{Draft}
-use Rattle.pattern.specs.Expressions.{Regex, empty}
-use Rattle.pattern.specs.Automaton.{first, later, Mode, ready, after, escape, in_class, in_count, Frame, frame, push, closed}
+use Rattle.notation.specs.Expressions.{Regex, empty}
+use Rattle.notation.specs.Automaton.{first, later, Mode, ready, after, escape, in_class, in_count, Frame, frame, push, closed}
 
 abbrev pub Opens : {T : Type 0} → (T → Regex → Type 0) → Draft T → Frame → Type 0
 Opens S c (frame first e) = IsNone c.earlier × S c.branch e

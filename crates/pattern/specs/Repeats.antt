@@ -8,10 +8,10 @@
 use Rattle.std.specs.Prelude.{◌≡◌, ℕ, ◌+◌, ◌<◌, ◌≤◌, false, List, ◌∷◌, ◌++◌, length, take, drop, decimal, slice_index}
 use Rattle.fault.specs.declared.Fault.{Fault}
 use Rattle.fault.specs.declared.Refusal.TheVariants.{BadlyWritten}
-use Rattle.pattern.specs.Expressions.{Regex}
-use Rattle.pattern.specs.Grammar.{Counts}
-use Rattle.pattern.specs.Automaton.{Frame, state, in_count, awaiting, digits, Stage, least, bound, count_can_go_on, count_kind, digit, verdict}
-use Rattle.pattern.specs.Refusals.{Stops, refused}
+use Rattle.notation.specs.Expressions.{Regex}
+use Rattle.notation.specs.Grammar.{Counts}
+use Rattle.notation.specs.Automaton.{Frame, state, in_count, awaiting, digits, Stage, least, bound, count_can_go_on, count_kind, digit, verdict}
+use Rattle.notation.specs.Refusals.{Stops, refused}
 
 pub record NumberRead (p : List ℕ) (at low n end : ℕ) : Type 0 where
   pub within : end ≤ length p

@@ -7,11 +7,11 @@ use Rattle.std.specs.Prelude.{◌≡◌, ℕ, ◌+◌, ◌<◌, Bool, true, fals
 use Rattle.fault.specs.declared.Fault.{Fault}
 use Rattle.pattern.specs.declared.sign.Sign.{Sign}
 use Rattle.pattern.specs.declared.sign.Sign.TheVariants.{Plain, Escape, Any, Class, Bar, Star, Plus, Question, Counted, Open, Close, End}
-use Rattle.pattern.specs.Characters.{kind, plain, escapable}
-use Rattle.pattern.specs.Expressions.{Range, Regex}
-use Rattle.pattern.specs.Grammar.{Members, Atom, Repeated}
-use Rattle.pattern.specs.Automaton.{Frame, Mode, ready, after, escape, in_class, in_count, state, verdict}
-use Rattle.pattern.specs.Refusals.{Stops}
+use Rattle.notation.specs.Characters.{kind, plain, escapable}
+use Rattle.notation.specs.Expressions.{Range, Regex}
+use Rattle.notation.specs.Grammar.{Members, Atom, Repeated}
+use Rattle.notation.specs.Automaton.{Frame, Mode, ready, after, escape, in_class, in_count, state, verdict}
+use Rattle.notation.specs.Refusals.{Stops}
 use Rattle.pattern.specs.Repeats.{Braced}
 
 -- a class is handed out as what stands between its brackets

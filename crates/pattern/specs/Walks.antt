@@ -5,9 +5,9 @@
 --   AlternativesRead         the same of what stands between parentheses, up to the closing one or the end
 use Rattle.std.specs.Prelude.{◌≡◌, ℕ, ◌<◌, ◌≤◌, List, length, drop, slice_index}
 use Rattle.fault.specs.declared.Fault.{Fault}
-use Rattle.pattern.specs.Expressions.{Regex}
-use Rattle.pattern.specs.Automaton.{Frame, Mode, ready, after, state, opened, closed, verdict}
-use Rattle.pattern.specs.Refusals.{Stops}
+use Rattle.notation.specs.Expressions.{Regex}
+use Rattle.notation.specs.Automaton.{Frame, Mode, ready, after, state, opened, closed, verdict}
+use Rattle.notation.specs.Refusals.{Stops}
 
 -- here the innermost open pattern ends
 abbrev pub Halts : List ℕ → ℕ → Type 0

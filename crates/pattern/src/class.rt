@@ -1,9 +1,9 @@
 // The class, from after its bracket: its state and the next byte together decide.
 ghost use Rattle.std.specs.Prelude.{◌≡◌, ◌<◌, List, ◌++◌, length, IfOk, MatchResult};
 ghost use Rattle.pattern.specs.Cursors.{OnePattern};
-ghost use Rattle.pattern.specs.Characters.{escapable, class_kind, kind_is_itself};
-ghost use Rattle.pattern.specs.Expressions.{Range};
-ghost use Rattle.pattern.specs.Grammar.{Members};
+ghost use Rattle.notation.specs.Characters.{escapable, class_kind, kind_is_itself};
+ghost use Rattle.notation.specs.Expressions.{Range};
+ghost use Rattle.notation.specs.Grammar.{Members};
 ghost use Rattle.pattern.specs.Classes.{Follows, done_by, ClassRead, ClassRefused};
 
 use crate::cursor::Cursor;

@@ -1,8 +1,8 @@
 // The reading so far of one run of alternatives.
 ghost use Rattle.std.specs.Prelude.{IsSome};
 ghost use Rattle.std.specs.Fn.{FnOnceReturnsAt};
-ghost use Rattle.pattern.specs.Expressions.{Regex};
-ghost use Rattle.pattern.specs.Automaton.{Mode, Frame, ready, opened};
+ghost use Rattle.notation.specs.Expressions.{Regex};
+ghost use Rattle.notation.specs.Automaton.{Mode, Frame, ready, opened};
 ghost use Rattle.pattern.specs.Drafts.{Keeps, WholeKept, ClosedKept, AtomKept, BarKept, RepeatKept, Repeats};
 
 use crate::assembly::Assembly;

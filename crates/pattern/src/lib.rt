@@ -6,7 +6,6 @@ mod class;
 mod count;
 mod cursor;
 mod draft;
-pub mod examples;
 pub mod gathering;
 mod reader;
 pub mod record;

@@ -1,9 +1,9 @@
 // The pattern record, which is lent to be read into. It always holds a pattern that was granted,
 // at first the empty one; `bytes` and `assemble` say so to their callers.
 ghost use Rattle.std.specs.Prelude.{◌≡◌, [], is_ok, Decides, MatchResult};
-ghost use Rattle.pattern.specs.Expressions.{Regex};
-ghost use Rattle.pattern.specs.Grammar.{Written, deepest, OneReading};
-ghost use Rattle.pattern.specs.Reading.{Readable, Granted, Refused};
+ghost use Rattle.notation.specs.Expressions.{Regex};
+ghost use Rattle.notation.specs.Grammar.{Written, deepest, OneReading};
+ghost use Rattle.notation.specs.Reading.{Readable, Granted, Refused};
 
 use crate::assembly::Assembly;
 use crate::verdict::{assemble, judge};
@@ -18,7 +18,7 @@ pub struct Pattern {
 
 impl Model for Pattern {
     ghost use Rattle.std.specs.Prelude.{ℕ, List};
-    ghost use Rattle.pattern.specs.Reading.{Readable};
+    ghost use Rattle.notation.specs.Reading.{Readable};
 
     ghost Value = { List ℕ };
 

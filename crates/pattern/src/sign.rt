@@ -2,7 +2,7 @@
 ghost use Rattle.std.specs.Prelude.{◌≡◌, ◌^◌, ◌<◌, Bool, true, false, length, MatchResult};
 ghost use Rattle.pattern.specs.Cursors.{Stands};
 ghost use Rattle.fault.specs.declared.Refusal.TheVariants.{BadlyWritten};
-ghost use Rattle.pattern.specs.Refusals.{refused};
+ghost use Rattle.notation.specs.Refusals.{refused};
 ghost use Rattle.pattern.specs.Signs.{text, Handed, SignRefused};
 
 use crate::cursor::Cursor;

@@ -1,6 +1,6 @@
 // Whether a pattern is read or refused, in the order of the refusals.
 ghost use Rattle.std.specs.Prelude.{◌≡◌, MatchResult};
-ghost use Rattle.pattern.specs.Reading.{Granted, Refused, Assembled, Unwritten};
+ghost use Rattle.notation.specs.Reading.{Granted, Refused, Assembled, Unwritten};
 
 use crate::assembly::Assembly;
 use crate::count::Count;

@@ -1,8 +1,8 @@
 use Rattle.std.proofs.Common.{rules, ◌≡◌, suc, ◌-◌, length, get_or, refl, ap, subst, arith}
-use Rattle.pattern.specs.Expressions.{one, byte}
+use Rattle.notation.specs.Expressions.{one, byte}
 use Rattle.pattern.proofs.Exits.{handed_on}
 use Rattle.std.proofs.lemmas.Option.{MatchOption-at_none}
-use Rattle.pattern.specs.Automaton.{ready, opened}
+use Rattle.notation.specs.Automaton.{ready, opened}
 use Rattle.pattern.proofs.Drafting.{keeps_waits}
 use Rattle.pattern.proofs.Groups.{too_deep, inner_stops, unfinished, group_read}
 use Rattle.pattern.proofs.Walking.{sign_stops, group_stops, walk_stops, walk_all}

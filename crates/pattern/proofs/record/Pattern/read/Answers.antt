@@ -1,6 +1,6 @@
 use Rattle.std.proofs.lemmas.Result.{err_from_is_err_and}
 use Rattle.std.proofs.lemmas.Bool.{false≢true}
-use Rattle.pattern.proofs.Completes.{one_reading}
+use Rattle.notation.proofs.Completes.{one_reading}
 use Rattle.pattern.proofs.Outcomes.{not_both}
 use Rattle.pattern.proofs.record.Pattern.read.Goals as goal
 

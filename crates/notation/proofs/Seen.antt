@@ -4,9 +4,9 @@
 --   Open d fr u     u is an open pattern, up to the end of a piece
 --   Around d ctx o  o is what stands before the innermost open pattern
 use Rattle.std.proofs.Common.{◌≡◌, ℕ, zero, suc, ◌+◌, ◌*◌, ◌<◌, ◌≤◌, ◌⊎◌, List, [], ◌∷◌, ◌++◌, decimal}
-use Rattle.pattern.specs.Expressions.{Range, Regex}
-use Rattle.pattern.specs.Grammar.{ClassByte, Members, Atom, Branch, Alternatives, Written}
-use Rattle.pattern.specs.Automaton.{Frame, frame, first, later, Mode, ready, after, escape, in_class, in_count, ClassState, fresh, in_escape, member, dashed, dashed_escape, CountState, awaiting, digits, Stage, least, most, bound, State, state}
+use Rattle.notation.specs.Expressions.{Range, Regex}
+use Rattle.notation.specs.Grammar.{ClassByte, Members, Atom, Branch, Alternatives, Written}
+use Rattle.notation.specs.Automaton.{Frame, frame, first, later, Mode, ready, after, escape, in_class, in_count, ClassState, fresh, in_escape, member, dashed, dashed_escape, CountState, awaiting, digits, Stage, least, most, bound, State, state}
 
 -- what stands between parentheses at depth d
 abbrev pub Group : ℕ → List ℕ → Regex → Type 0

@@ -2,10 +2,10 @@
 use Rattle.std.proofs.Common.{◌≡◌, ℕ, ◌+◌, ◌*◌, ◌/◌, ◌%◌, ◌<◌, true, leb, List, [], ◌∷◌, ◌++◌, decimal, sym, ap, ◌∙◌, subst, inl, inr, ⊎_elim, append_assoc, arith}
 use Rattle.std.proofs.lemmas.Fmt.{decimal_digit, decimal_step}
 use Rattle.std.proofs.lemmas.Bool.{cond_both, leb-true, and_parts, or_cases}
-use Rattle.pattern.specs.Grammar.{Counts, exactly, between}
-use Rattle.pattern.specs.Automaton.{CountState, CountKind, awaiting, digits, digit, comma, ended, other, Stage, least, most, bound, count_can_begin, count_can_go_on, count_kind, count_next, CountNext, no_count, counting, counts}
-use Rattle.pattern.proofs.Chars.{InCount, in_count_lem}
-use Rattle.pattern.proofs.Seen.{Before, Hopeful, Count}
+use Rattle.notation.specs.Grammar.{Counts, exactly, between}
+use Rattle.notation.specs.Automaton.{CountState, CountKind, awaiting, digits, digit, comma, ended, other, Stage, least, most, bound, count_can_begin, count_can_go_on, count_kind, count_next, CountNext, no_count, counting, counts}
+use Rattle.notation.proofs.Chars.{InCount, in_count_lem}
+use Rattle.notation.proofs.Seen.{Before, Hopeful, Count}
 
 abbrev pub Goes : CountNext → List ℕ → ℕ → Type 0
 Goes no_count y b = Unit {0}

@@ -2,11 +2,11 @@
 use Rattle.std.proofs.Common.{◌≡◌, ℕ, ◌+◌, ◌*◌, ◌/◌, ◌%◌, ◌<◌, ◌≤◌, true, List, [], ◌∷◌, ◌++◌, decimal, refl, ap, ◌∙◌, ⊎_elim, append_assoc, arith}
 use Rattle.std.proofs.lemmas.Fmt.{decimal_digit, decimal_step}
 use Rattle.std.proofs.lemmas.Bool.{le-leb, cond-true, and_from, or_left, or_right, cases_lt}
-use Rattle.pattern.specs.Expressions.{Regex, counted}
-use Rattle.pattern.specs.Grammar.{Counts, exactly, between}
-use Rattle.pattern.specs.Automaton.{Frame, State, state, ready, in_count, CountState, awaiting, digits, Stage, least, most, bound, count_can_begin, count_can_go_on, count_next, of_count, push, verdict}
-use Rattle.pattern.proofs.Chars.{digit_kind}
-use Rattle.pattern.proofs.Runs.{verdict_alive}
+use Rattle.notation.specs.Expressions.{Regex, counted}
+use Rattle.notation.specs.Grammar.{Counts, exactly, between}
+use Rattle.notation.specs.Automaton.{Frame, State, state, ready, in_count, CountState, awaiting, digits, Stage, least, most, bound, count_can_begin, count_can_go_on, count_next, of_count, push, verdict}
+use Rattle.notation.proofs.Chars.{digit_kind}
+use Rattle.notation.proofs.Runs.{verdict_alive}
 
 pub decimal_two : (n : ℕ) → 10 ≤ n → n < 100 → decimal n ≡ (48 + n / 10) ∷ ((48 + n % 10) ∷ [])
 decimal_two n lo hi =

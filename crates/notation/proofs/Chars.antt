@@ -1,8 +1,8 @@
 -- What the tests on a byte tell of it. Assumes nothing.
 use Rattle.std.proofs.Common.{◌≡◌, ℕ, ◌+◌, ◌-◌, ◌<◌, ◌≤◌, true, cond, ◌&&◌, eqb, leb, sym, ap, ◌∙◌, ⊎_elim, arith}
 use Rattle.std.proofs.lemmas.Bool.{true≢false, eqb-true, le-leb, leb-true, cond_both, cond-true, or_cases, and_parts, and_from}
-use Rattle.pattern.specs.Characters.{Kind, bar, times, add, query, open', close', square, unsquare, brace, unbrace, dot, backslash, plain, kind, is_special, escapable, ClassKind, ends, slash, hyphen, barred, itself, class_kind}
-use Rattle.pattern.specs.Automaton.{CountKind, digit, comma, ended, other, count_kind}
+use Rattle.notation.specs.Characters.{Kind, bar, times, add, query, open', close', square, unsquare, brace, unbrace, dot, backslash, plain, kind, is_special, escapable, ClassKind, ends, slash, hyphen, barred, itself, class_kind}
+use Rattle.notation.specs.Automaton.{CountKind, digit, comma, ended, other, count_kind}
 
 -- the byte of this kind
 abbrev pub Has : Kind → ℕ → Type 0

@@ -7,10 +7,10 @@ use Rattle.std.specs.Prelude.{ℕ, List, [], ◌∷◌, codes}
 use Rattle.std.specs.List.{AllByRecursion}
 use Rattle.fault.specs.declared.Fault.{Fault}
 use Rattle.fault.specs.declared.Refusal.TheVariants.{BadlyWritten, TooManyPlaces}
-use Rattle.pattern.specs.Expressions.{Regex}
-use Rattle.pattern.specs.Meaning.{Matches}
-use Rattle.pattern.specs.Reading.{ReadAs, Granted, Refused}
-use Rattle.pattern.specs.Refusals.{refused}
+use Rattle.notation.specs.Expressions.{Regex}
+use Rattle.notation.specs.Meaning.{Matches}
+use Rattle.notation.specs.Reading.{ReadAs, Granted, Refused}
+use Rattle.notation.specs.Refusals.{refused}
 
 infix 70 ◌yields◌ ◌omits◌ ◌has_places◌ ◌answers◌
 pub data Claim : Type 0 where

@@ -2,12 +2,12 @@
 use Rattle.std.proofs.Common.{◌≡◌, ℕ, ◌<◌, ◌≤◌, Bool, true, false, ◌&&◌, leb, List, [], ◌∷◌, ◌++◌, length, sym, refl, ap, ◌∙◌, append_assoc, arith}
 use Rattle.std.proofs.lemmas.List.{length-append}
 use Rattle.std.proofs.lemmas.Bool.{true≢false, le-leb, cond-true, and_from}
-use Rattle.pattern.specs.Characters.{ClassKind, ends, slash, hyphen, barred, itself, class_kind, escapable}
-use Rattle.pattern.specs.Expressions.{Range, one}
-use Rattle.pattern.specs.Grammar.{ClassByte, bare, escaped, Member, single, range, Members, none, more}
-use Rattle.pattern.specs.Automaton.{Frame, state, after, in_class, fresh, in_escape, member, dashed, dashed_escape, ClassState, ClassNext, no_class, inside, finished, class_next, of_class, verdict}
-use Rattle.pattern.proofs.Chars.{escapable_low}
-use Rattle.pattern.proofs.Runs.{verdict_is, onward}
+use Rattle.notation.specs.Characters.{ClassKind, ends, slash, hyphen, barred, itself, class_kind, escapable}
+use Rattle.notation.specs.Expressions.{Range, one}
+use Rattle.notation.specs.Grammar.{ClassByte, bare, escaped, Member, single, range, Members, none, more}
+use Rattle.notation.specs.Automaton.{Frame, state, after, in_class, fresh, in_escape, member, dashed, dashed_escape, ClassState, ClassNext, no_class, inside, finished, class_next, of_class, verdict}
+use Rattle.notation.proofs.Chars.{escapable_low}
+use Rattle.notation.proofs.Runs.{verdict_is, onward}
 
 -- where a text leads inside a class
 pub class_run : List ℕ → ClassNext → ClassNext

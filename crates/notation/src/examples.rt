@@ -1,6 +1,6 @@
 // The patterns that were worked out by hand, as theorems.
 ghost use Rattle.std.specs.Prelude.{◌≡◌, length};
-ghost use Rattle.pattern.specs.Examples.{claims, Examples};
+ghost use Rattle.notation.specs.Examples.{claims, Examples};
 
 // How many claims are made of them; each holds.
 pub fn worked_examples() -> usize

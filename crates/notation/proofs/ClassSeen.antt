@@ -1,13 +1,13 @@
 -- A byte that goes on in a class adds to the text that was read of it. Assumes nothing.
 use Rattle.std.proofs.Common.{◌≡◌, ℕ, ◌<◌, ◌&&◌, leb, List, [], ◌∷◌, ◌++◌, length, sym, refl, ap, ◌∙◌, subst, append_assoc, append-nil, arith}
 use Rattle.std.proofs.lemmas.Bool.{cond_both, leb-true, and_parts}
-use Rattle.pattern.specs.Characters.{ClassKind, ends, slash, hyphen, barred, itself, class_kind, escapable}
-use Rattle.pattern.specs.Expressions.{Range}
-use Rattle.pattern.specs.Grammar.{ClassByte, bare, escaped, single, range, Members, more}
-use Rattle.pattern.specs.Automaton.{ClassState, fresh, in_escape, member, dashed, dashed_escape, ClassNext, no_class, inside, finished, class_next}
-use Rattle.pattern.proofs.Chars.{InClass as Told, in_class_lem}
-use Rattle.pattern.proofs.Seen.{InClass, Class}
-use Rattle.pattern.proofs.ClassRuns.{push_some}
+use Rattle.notation.specs.Characters.{ClassKind, ends, slash, hyphen, barred, itself, class_kind, escapable}
+use Rattle.notation.specs.Expressions.{Range}
+use Rattle.notation.specs.Grammar.{ClassByte, bare, escaped, single, range, Members, more}
+use Rattle.notation.specs.Automaton.{ClassState, fresh, in_escape, member, dashed, dashed_escape, ClassNext, no_class, inside, finished, class_next}
+use Rattle.notation.proofs.Chars.{InClass as Told, in_class_lem}
+use Rattle.notation.proofs.Seen.{InClass, Class}
+use Rattle.notation.proofs.ClassRuns.{push_some}
 
 -- what the class is after one byte more: still open, or whole but for its last byte
 abbrev pub Goes : ClassNext → List ℕ → ℕ → Type 0

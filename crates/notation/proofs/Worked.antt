@@ -3,17 +3,17 @@ use Rattle.std.proofs.Common.{◌≡◌, ℕ, zero, suc, ◌-◌, ◌≤◌, Boo
 use Rattle.std.specs.List.{flat_map, AllByRecursion}
 use Rattle.std.proofs.lemmas.Bool.{and_parts, ltb-true}
 use Rattle.fault.specs.declared.Refusal.TheVariants.{BadlyWritten, TooManyPlaces}
-use Rattle.pattern.specs.Expressions.{Regex, byte, one, empty, seq, alt, star, plus, counted, Takes}
-use Rattle.pattern.specs.Places.{places}
-use Rattle.pattern.specs.Grammar.{Written}
-use Rattle.pattern.specs.Beginnings.{LongestBeginning}
-use Rattle.pattern.specs.Meaning.{Lang, Empty, Union, Copies, Matches}
-use Rattle.pattern.specs.Automaton.{good, bad, verdict, start}
-use Rattle.pattern.specs.Refusals.{refused}
-use Rattle.pattern.specs.Reading.{ReadAs, Refused}
-use Rattle.pattern.specs.Examples.{Examples}
-use Rattle.pattern.proofs.Sounds.{Bytes, sound}
-use Rattle.pattern.proofs.Faults.{longest, not_written}
+use Rattle.notation.specs.Expressions.{Regex, byte, one, empty, seq, alt, star, plus, counted, Takes}
+use Rattle.notation.specs.Places.{places}
+use Rattle.notation.specs.Grammar.{Written}
+use Rattle.notation.specs.Beginnings.{LongestBeginning}
+use Rattle.notation.specs.Meaning.{Lang, Empty, Union, Copies, Matches}
+use Rattle.notation.specs.Automaton.{good, bad, verdict, start}
+use Rattle.notation.specs.Refusals.{refused}
+use Rattle.notation.specs.Reading.{ReadAs, Refused}
+use Rattle.notation.specs.Examples.{Examples}
+use Rattle.notation.proofs.Sounds.{Bytes, sound}
+use Rattle.notation.proofs.Faults.{longest, not_written}
 
 abbrev all_bytes : List ℕ → Bool
 all_bytes [] = true

@@ -1,13 +1,13 @@
 -- The automaton reads each well-written pattern as its expression, so a pattern has one reading. Assumes nothing.
 use Rattle.std.proofs.Common.{◌≡◌, ℕ, zero, suc, true, List, [], ◌∷◌, ◌++◌, sym, refl, ap, ◌∙◌, append_assoc, append-nil}
 use Rattle.std.proofs.lemmas.Bool.{cond-true}
-use Rattle.pattern.specs.Characters.{escapable}
-use Rattle.pattern.specs.Expressions.{Regex, one, byte, empty, alt}
-use Rattle.pattern.specs.Grammar.{Repeated, by_star, by_plus, by_opt, by_count, Atom, a_plain, an_escape, a_dot, a_class, a_group, Piece, once, repeated, Branch, nothing, followed, Alternatives, lone, also, Written, OneReading}
-use Rattle.pattern.specs.Automaton.{Frame, frame, Sofar, first, later, state, ready, after, escape, opened, push, closed, begin, good, verdict, start}
-use Rattle.pattern.proofs.Runs.{NoRepeat, is_repeat, settles, verdict_alive, verdict_end}
-use Rattle.pattern.proofs.ClassRuns.{class_runs}
-use Rattle.pattern.proofs.CountRuns.{counts_run}
+use Rattle.notation.specs.Characters.{escapable}
+use Rattle.notation.specs.Expressions.{Regex, one, byte, empty, alt}
+use Rattle.notation.specs.Grammar.{Repeated, by_star, by_plus, by_opt, by_count, Atom, a_plain, an_escape, a_dot, a_class, a_group, Piece, once, repeated, Branch, nothing, followed, Alternatives, lone, also, Written, OneReading}
+use Rattle.notation.specs.Automaton.{Frame, frame, Sofar, first, later, state, ready, after, escape, opened, push, closed, begin, good, verdict, start}
+use Rattle.notation.proofs.Runs.{NoRepeat, is_repeat, settles, verdict_alive, verdict_end}
+use Rattle.notation.proofs.ClassRuns.{class_runs}
+use Rattle.notation.proofs.CountRuns.{counts_run}
 
 pub escape_runs : (b : ℕ) → escapable b ≡ true → (fr : Frame) (d : ℕ) (ctx : List Frame) (w : List ℕ) → verdict (state ready fr d ctx) (92 ∷ (b ∷ w)) ≡ verdict (state (after (one (byte b))) fr d ctx) w
 escape_runs b is fr d ctx w = verdict_alive _ (state escape fr d ctx) 92 _ refl ∙ verdict_alive (state escape fr d ctx) _ b w (cond-true (escapable b) _ _ is)

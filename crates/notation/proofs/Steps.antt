@@ -1,14 +1,14 @@
 -- A step of the automaton adds its byte to the text that was read. Assumes nothing.
 use Rattle.std.proofs.Common.{◌≡◌, ℕ, zero, suc, ◌<◌, List, [], ◌∷◌, ◌++◌, sym, refl, ap, ◌∙◌, subst, append_assoc, append-nil}
 use Rattle.std.proofs.lemmas.Bool.{cond_both}
-use Rattle.pattern.specs.Characters.{Kind, bar, times, add, query, open', close', square, unsquare, brace, unbrace, dot, backslash, plain, kind, escapable, class_kind}
-use Rattle.pattern.specs.Expressions.{Regex, one, alt, counted}
-use Rattle.pattern.specs.Grammar.{none, Repeated, by_star, by_plus, by_opt, by_count, Atom, a_plain, an_escape, a_dot, a_class, a_group, Piece, once, repeated, nothing, followed, Alternatives, lone, also, Written}
-use Rattle.pattern.specs.Automaton.{Frame, frame, first, later, ready, after, escape, in_class, in_count, ClassNext, no_class, inside, finished, class_next, CountNext, no_count, counting, counts, count_next, count_kind, State, state, Next, dead, alive, push, closed, begin, repeat_or, of_class, of_count, step_of}
-use Rattle.pattern.proofs.Chars.{Has, has}
-use Rattle.pattern.proofs.Seen.{Group, Open, Around, Seen}
-use Rattle.pattern.proofs.ClassSeen.{class_goes, Goes as ClassGoes}
-use Rattle.pattern.proofs.CountSeen.{count_goes, Goes as CountGoes}
+use Rattle.notation.specs.Characters.{Kind, bar, times, add, query, open', close', square, unsquare, brace, unbrace, dot, backslash, plain, kind, escapable, class_kind}
+use Rattle.notation.specs.Expressions.{Regex, one, alt, counted}
+use Rattle.notation.specs.Grammar.{none, Repeated, by_star, by_plus, by_opt, by_count, Atom, a_plain, an_escape, a_dot, a_class, a_group, Piece, once, repeated, nothing, followed, Alternatives, lone, also, Written}
+use Rattle.notation.specs.Automaton.{Frame, frame, first, later, ready, after, escape, in_class, in_count, ClassNext, no_class, inside, finished, class_next, CountNext, no_count, counting, counts, count_next, count_kind, State, state, Next, dead, alive, push, closed, begin, repeat_or, of_class, of_count, step_of}
+use Rattle.notation.proofs.Chars.{Has, has}
+use Rattle.notation.proofs.Seen.{Group, Open, Around, Seen}
+use Rattle.notation.proofs.ClassSeen.{class_goes, Goes as ClassGoes}
+use Rattle.notation.proofs.CountSeen.{count_goes, Goes as CountGoes}
 
 abbrev pub Goes : Next → List ℕ → Type 0
 Goes dead w = Unit {0}

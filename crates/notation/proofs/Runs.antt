@@ -1,9 +1,9 @@
 -- One step of the automaton, and where two of its modes go on alike. Assumes nothing.
 use Rattle.std.proofs.Common.{◌≡◌, ℕ, suc, Bool, true, false, List, [], ◌∷◌, length, sym, refl, ap, ◌∙◌}
 use Rattle.std.proofs.lemmas.Bool.{true≢false}
-use Rattle.pattern.specs.Characters.{Kind, bar, times, add, query, open', close', square, unsquare, brace, unbrace, dot, backslash, plain, kind}
-use Rattle.pattern.specs.Expressions.{Regex}
-use Rattle.pattern.specs.Automaton.{Frame, State, state, ready, after, Next, dead, alive, Outcome, bad, push, begin, repeat_or, step_of, finish, verdict}
+use Rattle.notation.specs.Characters.{Kind, bar, times, add, query, open', close', square, unsquare, brace, unbrace, dot, backslash, plain, kind}
+use Rattle.notation.specs.Expressions.{Regex}
+use Rattle.notation.specs.Automaton.{Frame, State, state, ready, after, Next, dead, alive, Outcome, bad, push, begin, repeat_or, step_of, finish, verdict}
 
 abbrev pub onward : Next → List ℕ → Outcome
 onward n w = elim n as (λ _. Outcome) [ dead ↦ bad (suc (length w)) | alive t ↦ verdict t w ]

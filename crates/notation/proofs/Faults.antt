@@ -1,15 +1,15 @@
 -- Where the automaton stops in a badly written pattern, and that this is its longest beginning. Assumes nothing.
 use Rattle.std.proofs.Common.{◌≡◌, ℕ, zero, suc, ◌-◌, ◌<◌, ◌≤◌, List, [], ◌∷◌, ◌++◌, length, take, sym, refl, ap, ◌∙◌, subst, append_assoc, append-nil, arith}
-use Rattle.pattern.specs.Expressions.{Regex}
-use Rattle.pattern.specs.Grammar.{WellWritten}
-use Rattle.pattern.specs.Beginnings.{LongestBeginning}
-use Rattle.pattern.specs.Automaton.{State, state, ready, after, escape, in_class, in_count, Next, dead, alive, good, bad, finish, step_of, verdict, start}
-use Rattle.pattern.proofs.Runs.{onward, verdict_is, verdict_end}
-use Rattle.pattern.proofs.Seen.{Seen}
-use Rattle.pattern.proofs.Steps.{Goes, step_goes}
-use Rattle.pattern.proofs.Sounds.{Bytes, never, sounds, seen_start}
-use Rattle.pattern.proofs.Completes.{completes}
-use Rattle.pattern.proofs.Endings.{ending}
+use Rattle.notation.specs.Expressions.{Regex}
+use Rattle.notation.specs.Grammar.{WellWritten}
+use Rattle.notation.specs.Beginnings.{LongestBeginning}
+use Rattle.notation.specs.Automaton.{State, state, ready, after, escape, in_class, in_count, Next, dead, alive, good, bad, finish, step_of, verdict, start}
+use Rattle.notation.proofs.Runs.{onward, verdict_is, verdict_end}
+use Rattle.notation.proofs.Seen.{Seen}
+use Rattle.notation.proofs.Steps.{Goes, step_goes}
+use Rattle.notation.proofs.Sounds.{Bytes, never, sounds, seen_start}
+use Rattle.notation.proofs.Completes.{completes}
+use Rattle.notation.proofs.Endings.{ending}
 
 same_bad : (m n : ℕ) → bad m ≡ bad n → m ≡ n
 same_bad m n e = cc

@@ -1,12 +1,12 @@
 -- What the automaton reads as an expression is written so. Assumes nothing.
 use Rattle.std.proofs.Common.{◌≡◌, ℕ, ◌<◌, List, [], ◌∷◌, ◌++◌, sym, refl, ap, ◌∙◌, subst, append_assoc, append-nil, arith}
 use Rattle.std.specs.List.{AllByRecursion}
-use Rattle.pattern.specs.Expressions.{Regex}
-use Rattle.pattern.specs.Grammar.{Written, once, nothing}
-use Rattle.pattern.specs.Automaton.{Frame, State, state, ready, after, escape, in_class, in_count, Next, dead, alive, good, bad, closed, push, step_of, finish, verdict, start}
-use Rattle.pattern.proofs.Seen.{Open, Seen}
-use Rattle.pattern.proofs.Steps.{Goes, shut, grow, written_is, step_goes}
-use Rattle.pattern.proofs.Runs.{onward, verdict_is, verdict_end}
+use Rattle.notation.specs.Expressions.{Regex}
+use Rattle.notation.specs.Grammar.{Written, once, nothing}
+use Rattle.notation.specs.Automaton.{Frame, State, state, ready, after, escape, in_class, in_count, Next, dead, alive, good, bad, closed, push, step_of, finish, verdict, start}
+use Rattle.notation.proofs.Seen.{Open, Seen}
+use Rattle.notation.proofs.Steps.{Goes, shut, grow, written_is, step_goes}
+use Rattle.notation.proofs.Runs.{onward, verdict_is, verdict_end}
 
 -- a byte is below 256, and a text is a list of bytes
 abbrev pub Bytes : List ℕ → Type 0

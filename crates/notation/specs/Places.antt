@@ -1,6 +1,6 @@
 -- How many places an expression has once the copies that `+` and counts stand for are written out. Assumes nothing.
 use Rattle.std.specs.Prelude.{ℕ, ◌+◌, ◌*◌}
-use Rattle.pattern.specs.Expressions.{Expr, one, empty, seq, alt, star, plus, opt, counted}
+use Rattle.notation.specs.Expressions.{Expr, one, empty, seq, alt, star, plus, opt, counted}
 
 abbrev pub places : {S : Type 0} → Expr S → ℕ
 places (one s) = 1

@@ -6,7 +6,7 @@
 --   Means takes e   the set of e, where `takes s` is the set of letters that the symbol s takes
 use Rattle.std.specs.Prelude.{◌≡◌, ℕ, zero, suc, ◌-◌, ◌⊎◌, List, [], ◌∷◌, ◌++◌}
 use Rattle.std.specs.List.{flat_map, AllByRecursion}
-use Rattle.pattern.specs.Expressions.{Expr, one, empty, seq, alt, star, plus, opt, counted, Regex, Takes}
+use Rattle.notation.specs.Expressions.{Expr, one, empty, seq, alt, star, plus, opt, counted, Regex, Takes}
 
 abbrev pub Lang : Type 0 → Type 1
 Lang A = List A → Type 0

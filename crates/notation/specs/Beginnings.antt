@@ -1,6 +1,6 @@
 -- What begins a well-written pattern, and the longest such beginning of a badly written one. Assumes nothing.
 use Rattle.std.specs.Prelude.{ℕ, ◌<◌, ◌≤◌, List, ◌++◌, length, take}
-use Rattle.pattern.specs.Grammar.{WellWritten}
+use Rattle.notation.specs.Grammar.{WellWritten}
 
 -- some bytes after w make it well written
 abbrev pub Begins : List ℕ → Type 0

@@ -8,11 +8,11 @@
 use Rattle.std.specs.Prelude.{◌≡◌, ℕ, ◌<◌, ◌≤◌, ◌⊎◌, List, length}
 use Rattle.fault.specs.declared.Fault.{Fault}
 use Rattle.fault.specs.declared.Refusal.TheVariants.{PatternTooLong, BadlyWritten, TooManyPlaces}
-use Rattle.pattern.specs.Expressions.{Regex}
-use Rattle.pattern.specs.Places.{places}
-use Rattle.pattern.specs.Grammar.{Written, WellWritten, deepest}
-use Rattle.pattern.specs.Beginnings.{LongestBeginning}
-use Rattle.pattern.specs.Refusals.{refused}
+use Rattle.notation.specs.Expressions.{Regex}
+use Rattle.notation.specs.Places.{places}
+use Rattle.notation.specs.Grammar.{Written, WellWritten, deepest}
+use Rattle.notation.specs.Beginnings.{LongestBeginning}
+use Rattle.notation.specs.Refusals.{refused}
 
 pub record ReadAs (w : List ℕ) (e : Regex) : Type 0 where
   pub short : length w ≤ 256

@@ -2,15 +2,15 @@
 use Rattle.std.proofs.Common.{◌≡◌, ℕ, suc, ◌+◌, ◌-◌, ◌*◌, ◌<◌, ◌≤◌, leb, List, [], ◌∷◌, ◌++◌, length, decimal, sym, refl, ap, ◌∙◌, subst, ⊎_elim, arith}
 use Rattle.std.proofs.lemmas.Fmt.{decimal_digit}
 use Rattle.std.proofs.lemmas.Bool.{cond-true, le-leb, and_from, cases_lt}
-use Rattle.pattern.specs.Expressions.{Range, Regex, one, byte, counted}
-use Rattle.pattern.specs.Grammar.{ClassByte, bare, escaped}
-use Rattle.pattern.specs.Automaton.{Frame, State, state, ready, after, escape, in_class, in_count, ClassState, fresh, in_escape, member, dashed, dashed_escape, CountState, awaiting, digits, Stage, least, most, bound, of_class, of_count, good, closed, push, verdict}
-use Rattle.pattern.proofs.Chars.{escapable_low}
-use Rattle.pattern.proofs.Runs.{NoRepeat, settles, verdict_alive, verdict_end}
-use Rattle.pattern.proofs.ClassRuns.{push_some}
-use Rattle.pattern.proofs.CountRuns.{number_runs, goes_on, decimal_two}
-use Rattle.pattern.proofs.Seen.{Class, Before, Count, Seen}
-use Rattle.pattern.proofs.Sounds.{Bytes}
+use Rattle.notation.specs.Expressions.{Range, Regex, one, byte, counted}
+use Rattle.notation.specs.Grammar.{ClassByte, bare, escaped}
+use Rattle.notation.specs.Automaton.{Frame, State, state, ready, after, escape, in_class, in_count, ClassState, fresh, in_escape, member, dashed, dashed_escape, CountState, awaiting, digits, Stage, least, most, bound, of_class, of_count, good, closed, push, verdict}
+use Rattle.notation.proofs.Chars.{escapable_low}
+use Rattle.notation.proofs.Runs.{NoRepeat, settles, verdict_alive, verdict_end}
+use Rattle.notation.proofs.ClassRuns.{push_some}
+use Rattle.notation.proofs.CountRuns.{number_runs, goes_on, decimal_two}
+use Rattle.notation.proofs.Seen.{Class, Before, Count, Seen}
+use Rattle.notation.proofs.Sounds.{Bytes}
 
 -- some bytes end what s has begun
 abbrev pub Ending : State → Type 0

@@ -6,8 +6,8 @@
 --   Atom G, Branch G, Alternatives G   where G says what may stand between parentheses
 --   Written d w e      w is read as e, with parentheses nested at most d deep
 use Rattle.std.specs.Prelude.{◌≡◌, ℕ, zero, suc, ◌<◌, ◌≤◌, true, List, [], ◌∷◌, ◌++◌, length, decimal}
-use Rattle.pattern.specs.Characters.{kind, plain, escapable, class_kind, itself}
-use Rattle.pattern.specs.Expressions.{Range, Regex, byte, any, one, empty, seq, alt, star, plus, opt, counted}
+use Rattle.notation.specs.Characters.{kind, plain, escapable, class_kind, itself}
+use Rattle.notation.specs.Expressions.{Range, Regex, byte, any, one, empty, seq, alt, star, plus, opt, counted}
 
 pub data ClassByte : List ℕ → ℕ → Type 0 where
   bare : {b : ℕ} → b < 256 → class_kind b ≡ itself → ClassByte (b ∷ []) b

@@ -4,7 +4,7 @@ use Rattle.fault.specs.declared.Fault.{Fault}
 use Rattle.fault.specs.declared.Layer.TheVariants.{Pattern}
 use Rattle.fault.specs.declared.Refusal.{Refusal}
 use Rattle.fault.specs.declared.Refusal.TheVariants.{BadlyWritten}
-use Rattle.pattern.specs.Automaton.{Outcome, bad}
+use Rattle.notation.specs.Automaton.{Outcome, bad}
 
 abbrev pub refused : Refusal → ℕ → Fault
 refused why place = record { refusal = why; layer = Pattern; place = place }

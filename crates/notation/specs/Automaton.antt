@@ -5,8 +5,8 @@
 --   State         a mode, the innermost open pattern, the depth left, and the patterns around it
 --   verdict s w   how w goes on from s: read as an expression, or refused with so many bytes unread
 use Rattle.std.specs.Prelude.{ℕ, zero, suc, ◌+◌, ◌-◌, ◌*◌, Bool, cond, ◌&&◌, ◌||◌, List, [], ◌∷◌, ◌++◌, length, ◌==◌, nat_le}
-use Rattle.pattern.specs.Characters.{Kind, bar, times, add, query, open', close', square, unsquare, brace, unbrace, dot, backslash, plain, kind, escapable, ClassKind, ends, slash, hyphen, barred, itself, class_kind}
-use Rattle.pattern.specs.Expressions.{Range, Regex, byte, any, one, empty, seq, alt, star, plus, opt, counted}
+use Rattle.notation.specs.Characters.{Kind, bar, times, add, query, open', close', square, unsquare, brace, unbrace, dot, backslash, plain, kind, escapable, ClassKind, ends, slash, hyphen, barred, itself, class_kind}
+use Rattle.notation.specs.Expressions.{Range, Regex, byte, any, one, empty, seq, alt, star, plus, opt, counted}
 
 pub data Sofar : Type 0 where
   first : Sofar
