@@ -1,7 +1,7 @@
 -- Sets of bytes as rows of masks: one byte, and more bytes. Assumes nothing.
 use Rattle.std.proofs.Common.{◌≡◌, ℕ, ◌<◌, ◌≤◌, ◌⊎◌, ◌↔◌, List, ◌∷◌, get_or, inl, inr, ⊎_elim, arith}
 use mathlib.Core.Logic.{∥∥₁_map}
-use Rattle.pattern.specs.Expressions.{Symbol, byte}
+use Rattle.notation.specs.Expressions.{Symbol, byte}
 use Rattle.machines.specs.Letters.{LettersOf, SomeLetters, Widens}
 use Rattle.machines.specs.Masks.{Has}
 

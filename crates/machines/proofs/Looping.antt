@@ -1,7 +1,7 @@
 -- The tables of a closure, of a language or nothing, of the empty text and of one place. Assumes nothing.
 use Rattle.std.proofs.Common.{◌≡◌, ℕ, [], ◌∷◌, sym, refl, ap, subst, inl, inr, ⊎_elim, arith}
-use Rattle.pattern.specs.Expressions.{Symbol, Takes}
-use Rattle.pattern.specs.Meaning.{Lang, Empty, Union, Closure}
+use Rattle.notation.specs.Expressions.{Symbol, Takes}
+use Rattle.notation.specs.Meaning.{Lang, Empty, Union, Closure}
 use Rattle.machines.specs.declared.tables.Tables.{Tables}
 use Rattle.machines.specs.Building.{TablesBy, Loops, Passes}
 use Rattle.machines.specs.Spellings.{Place, On}

@@ -1,8 +1,8 @@
 -- Tables that represent a language over places, and those of two languages joined. Assumes nothing.
 use Rattle.std.proofs.Common.{ℕ, ◌<◌, ◌≤◌, ◌↔◌, List, [], ◌∷◌, refl, subst, inl, inr, ⊎_elim, arith}
-use Rattle.pattern.specs.Expressions.{Regex, Symbol, Takes}
-use Rattle.pattern.specs.Meaning.{Lang, Joined}
-use Rattle.pattern.specs.Places.{places}
+use Rattle.notation.specs.Expressions.{Regex, Symbol, Takes}
+use Rattle.notation.specs.Meaning.{Lang, Joined}
+use Rattle.notation.specs.Places.{places}
 use Rattle.machines.specs.declared.tables.Tables.{Tables}
 use Rattle.machines.specs.Building.{nexts, takers, Then}
 use Rattle.machines.specs.Masks.{Has}

@@ -6,7 +6,7 @@
 --   leg t w          for each state the set of states that w leads to, by the tables
 --   Reached e l w    l is, for each state, the set of states that w leads to
 use Rattle.std.specs.Prelude.{◌≡◌, ℕ, zero, suc, ◌^◌, ◌<◌, ◌↔◌, List, [], ◌∷◌, bit_and, slice_index}
-use Rattle.pattern.specs.Expressions.{Regex}
+use Rattle.notation.specs.Expressions.{Regex}
 use Rattle.machines.specs.declared.relation.Relation.{Relation}
 use Rattle.machines.specs.declared.tables.Tables.{Tables}
 use Rattle.machines.specs.Masks.{Has, gathered}

@@ -28,7 +28,7 @@ pub struct Fragment {
 
 impl Fragment {
     ghost use Rattle.std.specs.Fn.{FnOnceReturnsAt, FnOnceReturnsAtPair};
-    ghost use Rattle.pattern.specs.Expressions.{Regex, Symbol, one};
+    ghost use Rattle.notation.specs.Expressions.{Regex, Symbol, one};
     ghost use Rattle.machines.specs.Letters.{LettersOf};
     ghost use Rattle.machines.specs.Making.{Changes, ChangesSome, Joins, JoinsSome};
     ghost use Rattle.machines.specs.Soundness.{TakesSome};

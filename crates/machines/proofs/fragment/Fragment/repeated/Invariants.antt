@@ -1,4 +1,4 @@
-use Rattle.pattern.specs.Expressions.{Regex}
+use Rattle.notation.specs.Expressions.{Regex}
 use Rattle.machines.specs.Spellings.{copies}
 use Rattle.machines.specs.Standing.{StandsFor}
 use Rattle.machines.proofs.fragment.Fragment.repeated.Given as goal

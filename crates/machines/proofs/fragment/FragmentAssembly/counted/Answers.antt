@@ -1,5 +1,5 @@
 use Rattle.std.proofs.Common.{◌-◌, subst}
-use Rattle.pattern.specs.Expressions.{opt}
+use Rattle.notation.specs.Expressions.{opt}
 use Rattle.machines.specs.Spellings.{copies}
 use Rattle.machines.specs.Standing.{StandsFor}
 use Rattle.machines.proofs.Copies.{counted_stands}

@@ -1,5 +1,5 @@
 use Rattle.std.proofs.Common.{rules}
-use Rattle.pattern.specs.Expressions.{alt}
+use Rattle.notation.specs.Expressions.{alt}
 use Rattle.machines.proofs.Parts.{either_joins}
 use Rattle.machines.proofs.fragment.FragmentAssembly.either.Goals as goal
 

@@ -1,4 +1,4 @@
-use Rattle.pattern.specs.Expressions.{star}
+use Rattle.notation.specs.Expressions.{star}
 use Rattle.machines.proofs.Standing.{plus_stands}
 use Rattle.machines.proofs.fragment.FragmentAssembly.plus.Goals as goal
 
