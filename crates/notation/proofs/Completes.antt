@@ -19,7 +19,7 @@ repeat_runs by_opt fr d ctx w = verdict_alive _ _ 63 w refl
 repeat_runs (by_count {e = e} c) fr d ctx w = verdict_alive _ _ 123 _ refl ∙ counts_run e fr d ctx c w
 
 module _ (G : List ℕ → Regex → Type 0) (d : ℕ) (group_runs : (v : List ℕ) (e : Regex) → G v e → (fr : Frame) (ctx : List Frame) (w : List ℕ) → verdict (state ready fr d ctx) (40 ∷ (v ++ 41 ∷ w)) ≡ verdict (state (after e) fr d ctx) w) where
-  atom_runs : {v : List ℕ} {e : Regex} → Atom G v e → (fr : Frame) (ctx : List Frame) (w : List ℕ) → verdict (state ready fr d ctx) (v ++ w) ≡ verdict (state (after e) fr d ctx) w
+  pub atom_runs : {v : List ℕ} {e : Regex} → Atom G v e → (fr : Frame) (ctx : List Frame) (w : List ℕ) → verdict (state ready fr d ctx) (v ++ w) ≡ verdict (state (after e) fr d ctx) w
   atom_runs (a_plain {b} small is) fr ctx w = verdict_alive _ _ b w (ap (λ k. begin k b fr d ctx) is)
   atom_runs (an_escape {b} is) fr ctx w = escape_runs b is fr d ctx w
   atom_runs a_dot fr ctx w = verdict_alive _ _ 46 w refl
@@ -30,7 +30,7 @@ module _ (G : List ℕ → Regex → Type 0) (d : ℕ) (group_runs : (v : List �
   piece_runs (once {e = e} a) fr ctx w h = atom_runs a fr ctx w ∙ settles e fr d ctx w h
   piece_runs (repeated {v = v} {w = u} a r) fr ctx w h = ap (verdict _) (append_assoc v u w) ∙ atom_runs a fr ctx (u ++ w) ∙ repeat_runs r fr d ctx w
 
-  atom_no_repeat : {v : List ℕ} {e : Regex} → Atom G v e → (w : List ℕ) → NoRepeat (v ++ w)
+  pub atom_no_repeat : {v : List ℕ} {e : Regex} → Atom G v e → (w : List ℕ) → NoRepeat (v ++ w)
   atom_no_repeat (a_plain small is) w = ap is_repeat is
   atom_no_repeat (an_escape is) w = refl
   atom_no_repeat a_dot w = refl

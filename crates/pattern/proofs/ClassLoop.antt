@@ -1,5 +1,5 @@
 -- What the class reader has seen after each byte, and the three ways out of its loop. Assumes nothing.
-use Rattle.std.proofs.Common.{◌≡◌, ℕ, ◌+◌, ◌-◌, ◌<◌, ◌≤◌, None, Some, List, [], ◌∷◌, ◌++◌, length, get_or, take, drop, sym, refl, ap, ◌∙◌, subst, ⊎_elim, append_assoc, arith, length-drop}
+use Rattle.std.proofs.Common.{◌≡◌, ℕ, ◌+◌, ◌-◌, ◌<◌, ◌≤◌, Option, None, Some, List, [], ◌∷◌, ◌++◌, length, get_or, take, drop, sym, refl, ap, ◌∙◌, subst, ⊎_elim, append_assoc, arith, length-drop}
 use Rattle.std.proofs.lemmas.List.{take_more, get_or-drop}
 use Rattle.std.proofs.lemmas.Bool.{cases_lt}
 use Rattle.fault.specs.declared.Fault.{Fault}
@@ -11,7 +11,7 @@ use Rattle.notation.specs.Expressions.{Range, one}
 use Rattle.notation.specs.Grammar.{Members, none}
 use Rattle.notation.specs.Characters.{class_kind}
 use Rattle.notation.specs.Automaton.{Frame, state, opened, after, bad, in_class, fresh, class_next, of_class, inside, verdict}
-use Rattle.pattern.specs.Classes.{state_of, Suits, Follows, ClassRead, ClassStops, ClassRefused}
+use Rattle.pattern.specs.Classes.{state_of, Suits, with_last, Follows, ClassRead, ClassStops, ClassRefused}
 use Rattle.notation.specs.Refusals.{refused}
 use Rattle.notation.proofs.Seen.{Class}
 use Rattle.notation.proofs.ClassSeen.{class_goes, Goes}
@@ -86,9 +86,10 @@ module _ (p : List ℕ) (at i b : ℕ) (old : Progress) (lt : i < length p) (byt
       ∙ verdict_alive _ (state (in_class rs (state_of new)) opened 0 []) b [] (ap (λ n. of_class n opened 0 []) is) ∙ verdict_end (state (in_class rs (state_of new)) opened 0 []) in
       never _ 0 (sym not_ended ∙ ended)
 
-  pub far_more : (new : Progress) → Follows old b (Some Inside) new → Far p at (i + 1) new
-  far_more new follows =
-      let (rs, is, suits) = follows far.ranges far.suits in
+  pub far_more : (f : Option Range) (new : Progress) → Follows old b (Some (Inside f)) new → Far p at (i + 1) new
+  far_more f new follows =
+      let (is, suits) = follows far.ranges far.suits in
+      let rs = with_last far.ranges f in
       let le = far.forward in
       record {
         forward = omega arith;
@@ -104,11 +105,11 @@ module _ (p : List ℕ) (at i b : ℕ) (old : Progress) (lt : i < length p) (byt
             (cases_lt n (i - at));
       }
 
-  pub far_ended : (new : Progress) → Follows old b (Some Ended) new → ClassRead p at i
-  far_ended new follows =
-      let (rs, is) = follows far.ranges far.suits in
+  pub far_ended : (f : Option Range) (new : Progress) → Follows old b (Some (Ended f)) new → ClassRead p at i
+  far_ended f new follows =
+      let is = follows far.ranges far.suits in
       let (bracket, some, ms) = subst (λ n. Goes n (take (i - at) (drop at p)) b) is goes in
-      record { forward = far.forward; within = lt; bracket = byte ∙ bracket; members = rs; some = some; written = ms }
+      record { forward = far.forward; within = lt; bracket = byte ∙ bracket; members = with_last far.ranges f; some = some; written = ms }
 
   pub far_refused : (new : Progress) (f : Fault) → Follows old b None new → f ≡ refused BadlyWritten i → ClassRefused p at f
   far_refused new f follows is = record { none = class_none p at i f far.open' stop is; stops = stop }

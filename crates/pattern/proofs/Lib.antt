@@ -3,7 +3,6 @@ pub mod Slices
 pub mod Numbers
 pub mod CountWays
 pub mod ClassWays
-pub mod ClassDone
 pub mod ClassLoop
 pub mod ClassMembers
 pub mod SignWays
@@ -14,3 +13,4 @@ pub mod SignSteps
 pub mod Outcomes
 pub mod SignShapes
 pub mod OneByteSigns
+pub mod Growing

@@ -27,8 +27,8 @@ settle_runs true (in_class rs s) is fr d ctx w free = absurd is
 settle_runs true (in_count f s) is fr d ctx w free = absurd is
 
 module _ (p : List ℕ) (at : ℕ) where
-  pub part_within : (u : List ℕ) → at < length p → drop at p ≡ u ++ drop (at + length u) p → at + length u ≤ length p
-  part_within u lt is =
+  pub part_within : (u : List ℕ) → 0 < length u → drop at p ≡ u ++ drop (at + length u) p → at + length u ≤ length p
+  part_within u some is =
       let long : length p - at ≡ length u + (length p - (at + length u)) = sym (length-drop at p) ∙ ap length is ∙ length-append u _ ∙ ap (λ n. length u + n) (length-drop (at + length u) p) in
       omega arith
 

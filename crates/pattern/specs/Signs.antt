@@ -65,6 +65,21 @@ is_end (Open t) = false
 is_end (Close t) = false
 is_end End = true
 
+-- part of a branch or between two of them, and so neither a parenthesis nor the end
+abbrev pub is_inner : Sign → Bool
+is_inner (Plain t) = true
+is_inner (Escape t) = true
+is_inner (Any t) = true
+is_inner (Class t) = true
+is_inner (Bar t) = true
+is_inner (Star t) = true
+is_inner (Plus t) = true
+is_inner (Question t) = true
+is_inner (Counted t) = true
+is_inner (Open t) = false
+is_inner (Close t) = false
+is_inner End = false
+
 -- in whichever mode the automaton waits for a sign, the fault has the place where it stops
 abbrev pub Waits : Bool → Mode → Type 0
 Waits false ready = Unit {0}

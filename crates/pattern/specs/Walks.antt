@@ -3,8 +3,11 @@
 --   Steps p at d K end K'    from `at` to `end` stands one sign or group; K was kept before it, and K' is after it
 --   GroupRead p at d end E   from `at` to `end` stands a group whose expression satisfies E
 --   AlternativesRead         the same of what stands between parentheses, up to the closing one or the end
-use Rattle.std.specs.Prelude.{◌≡◌, ℕ, ◌<◌, ◌≤◌, List, length, drop, slice_index}
+use Rattle.std.specs.Prelude.{◌≡◌, ℕ, ◌<◌, ◌≤◌, List, length, drop, slice_index, Option, MatchOption}
 use Rattle.fault.specs.declared.Fault.{Fault}
+use Rattle.pattern.specs.declared.cursor.Cursor.{Cursor}
+use Rattle.pattern.specs.declared.draft.Draft.{Draft}
+use Rattle.pattern.specs.Drafts.{Keeps}
 use Rattle.notation.specs.Expressions.{Regex}
 use Rattle.notation.specs.Automaton.{Frame, Mode, ready, after, state, opened, closed, verdict}
 use Rattle.notation.specs.Refusals.{Stops}
@@ -23,6 +26,10 @@ pub record Steps (p : List ℕ) (at d : ℕ) (K : Mode → Frame → Type 0) (en
   pub forward : at < end
   pub within : end ≤ length p
   pub leads : (m : Mode) (fr : Frame) → K m fr → Leads p at d end m fr K'
+
+-- what a step answers where it is not refused: the end of the alternatives, or the draft after it
+abbrev pub Stepped : {T : Type 0} → (T → Regex → Type 0) → Cursor → ℕ → Draft T → Option (Cursor × Draft T) → Type 0
+Stepped S from d draft o = MatchOption o (Halts from.pattern.now from.at) (λ x. Steps from.pattern.now from.at d (Keeps S draft) x.0.at (Keeps S x.1))
 
 abbrev pub StepStops : List ℕ → ℕ → ℕ → (Mode → Frame → Type 0) → Fault → Type 0
 StepStops p at d K f = (m : Mode) (fr : Frame) → K m fr → (ctx : List Frame) → Stops p f (verdict (state m fr d ctx) (drop at p))

@@ -6,7 +6,7 @@ ghost use Rattle.notation.specs.Grammar.{Written, deepest, OneReading};
 ghost use Rattle.notation.specs.Reading.{Readable, Granted, Refused};
 
 use crate::assembly::Assembly;
-use crate::verdict::{assemble, judge};
+use crate::reading::{assemble, places};
 use arrayvec::ArrayVec;
 use fault::Fault;
 use std::marker::Model;
@@ -58,10 +58,10 @@ impl Pattern {
         ensures exactly { Decides (is_ok result) (Readable bytes.now) }
     {
         *self = Pattern::new();
-        let places = judge(bytes)?;
+        let count = places(bytes)?;
         *self = Pattern {
             bytes: ArrayVec::try_from(bytes).unwrap(),
         };
-        Ok(places)
+        Ok(count)
     }
 }

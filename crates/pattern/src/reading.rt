@@ -32,8 +32,8 @@ pub(crate) fn assemble<T: Assembly>(bytes: &[u8]) -> Result<T, Fault>
     }
 }
 
-// The number of places.
-pub(crate) fn judge(bytes: &[u8]) -> Result<u8, Fault>
+// How many places a pattern has.
+pub(crate) fn places(bytes: &[u8]) -> Result<u8, Fault>
     ensures cases { MatchResult result (λ n. Granted bytes.now n) (λ f. Refused bytes.now f) }
 {
     let count = assemble::<Count>(bytes)?;

@@ -1,6 +1,6 @@
 use Rattle.pattern.proofs.Exits.{handed_on}
 use Rattle.pattern.proofs.Outcomes.{bytes_slice, reader_stops, left_over, assembled}
-use Rattle.pattern.proofs.verdict.assemble.Goals as goal
+use Rattle.pattern.proofs.reading.assemble.Goals as goal
 
 pub returns-in_err-end : goal.returns-in_err-end
 returns-in_err-end g c =
