@@ -5,9 +5,9 @@ use Rattle.std.proofs.lemmas.Bool.{true≢false, le-leb, cond-true, and_from}
 use Rattle.notation.specs.Characters.{ClassKind, ends, slash, hyphen, barred, itself, class_kind, escapable}
 use Rattle.notation.specs.Expressions.{Range, one}
 use Rattle.notation.specs.Grammar.{ClassByte, bare, escaped, Member, single, range, Members, none, more}
-use Rattle.notation.specs.Automaton.{Frame, state, after, in_class, fresh, in_escape, member, dashed, dashed_escape, ClassState, ClassNext, no_class, inside, finished, class_next, of_class, verdict}
+use Rattle.notation.specs.Automaton.{Frame, state, after, in_class, fresh, in_escape, member, dashed, dashed_escape, ClassState, ClassNext, no_class, inside, finished, class_next, of_class, outcome_of}
 use Rattle.notation.proofs.Chars.{escapable_low}
-use Rattle.notation.proofs.Runs.{verdict_is, onward}
+use Rattle.notation.proofs.Runs.{outcome_is, onward}
 
 -- where a text leads inside a class
 pub class_run : List ℕ → ClassNext → ClassNext
@@ -120,13 +120,13 @@ pub not_finished : (rs : List Range) → no_class ≡ finished rs → ⊥
 not_finished rs is = cc
 
 module _ (fr : Frame) (d : ℕ) (ctx : List Frame) where
-  finished_verdict : (v : List ℕ) (n : ClassNext) (rs : List Range) → class_run v n ≡ finished rs → (w : List ℕ) → onward (of_class n fr d ctx) (v ++ w) ≡ verdict (state (after (one rs)) fr d ctx) w
+  finished_outcome : (v : List ℕ) (n : ClassNext) (rs : List Range) → class_run v n ≡ finished rs → (w : List ℕ) → onward (of_class n fr d ctx) (v ++ w) ≡ outcome_of (state (after (one rs)) fr d ctx) w
   unfolding class_run
-  finished_verdict [] n rs is w = ap (λ n. onward (of_class n fr d ctx) w) is
-  finished_verdict (b ∷ v) no_class rs is w = absurd (not_finished rs is)
-  finished_verdict (b ∷ v) (inside qs c) rs is w = verdict_is _ b (v ++ w) ∙ finished_verdict v (class_next (class_kind b) b qs c) rs is w
-  finished_verdict (b ∷ v) (finished qs) rs is w = absurd (not_finished rs is)
+  finished_outcome [] n rs is w = ap (λ n. onward (of_class n fr d ctx) w) is
+  finished_outcome (b ∷ v) no_class rs is w = absurd (not_finished rs is)
+  finished_outcome (b ∷ v) (inside qs c) rs is w = outcome_is _ b (v ++ w) ∙ finished_outcome v (class_next (class_kind b) b qs c) rs is w
+  finished_outcome (b ∷ v) (finished qs) rs is w = absurd (not_finished rs is)
 
-  pub class_runs : {v : List ℕ} {rs : List Range} → Members v rs → 0 < length rs → (w : List ℕ) → verdict (state (in_class [] fresh) fr d ctx) (v ++ 93 ∷ w) ≡ verdict (state (after (one rs)) fr d ctx) w
+  pub class_runs : {v : List ℕ} {rs : List Range} → Members v rs → 0 < length rs → (w : List ℕ) → outcome_of (state (in_class [] fresh) fr d ctx) (v ++ 93 ∷ w) ≡ outcome_of (state (after (one rs)) fr d ctx) w
   class_runs {v} {rs} ms some w =
-      ap (verdict _) (sym (append_assoc v (93 ∷ []) w)) ∙ finished_verdict (v ++ 93 ∷ []) (inside [] fresh) rs (class_finishes ms some) w
+      ap (outcome_of _) (sym (append_assoc v (93 ∷ []) w)) ∙ finished_outcome (v ++ 93 ∷ []) (inside [] fresh) rs (class_finishes ms some) w

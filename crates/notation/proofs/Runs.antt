@@ -3,24 +3,24 @@ use Rattle.std.proofs.Common.{◌≡◌, ℕ, suc, Bool, true, false, List, [], 
 use Rattle.std.proofs.lemmas.Bool.{true≢false}
 use Rattle.notation.specs.Characters.{Kind, bar, times, add, query, open', close', square, unsquare, brace, unbrace, dot, backslash, plain, kind}
 use Rattle.notation.specs.Expressions.{Regex}
-use Rattle.notation.specs.Automaton.{Frame, State, state, ready, after, Next, dead, alive, Outcome, bad, push, begin, repeat_or, step_of, finish, verdict}
+use Rattle.notation.specs.Automaton.{Frame, State, state, ready, after, Next, dead, alive, Outcome, bad, push, begin, repeat_or, step_of, finish, outcome_of}
 
 abbrev pub onward : Next → List ℕ → Outcome
-onward n w = elim n as (λ _. Outcome) [ dead ↦ bad (suc (length w)) | alive t ↦ verdict t w ]
+onward n w = elim n as (λ _. Outcome) [ dead ↦ bad (suc (length w)) | alive t ↦ outcome_of t w ]
 
-pub verdict_is : (s : State) (b : ℕ) (w : List ℕ) → verdict s (b ∷ w) ≡ onward (step_of s b) w
-unfolding verdict
-verdict_is s b w = refl
+pub outcome_is : (s : State) (b : ℕ) (w : List ℕ) → outcome_of s (b ∷ w) ≡ onward (step_of s b) w
+unfolding outcome_of
+outcome_is s b w = refl
 
-pub verdict_alive : (s t : State) (b : ℕ) (w : List ℕ) → step_of s b ≡ alive t → verdict s (b ∷ w) ≡ verdict t w
-verdict_alive s t b w e = verdict_is s b w ∙ ap (λ n. onward n w) e
+pub outcome_alive : (s t : State) (b : ℕ) (w : List ℕ) → step_of s b ≡ alive t → outcome_of s (b ∷ w) ≡ outcome_of t w
+outcome_alive s t b w e = outcome_is s b w ∙ ap (λ n. onward n w) e
 
-pub verdict_dead : (s : State) (b : ℕ) (w : List ℕ) → step_of s b ≡ dead → verdict s (b ∷ w) ≡ bad (suc (length w))
-verdict_dead s b w e = verdict_is s b w ∙ ap (λ n. onward n w) e
+pub outcome_dead : (s : State) (b : ℕ) (w : List ℕ) → step_of s b ≡ dead → outcome_of s (b ∷ w) ≡ bad (suc (length w))
+outcome_dead s b w e = outcome_is s b w ∙ ap (λ n. onward n w) e
 
-pub verdict_end : (s : State) → verdict s [] ≡ finish s
-unfolding verdict
-verdict_end s = refl
+pub outcome_end : (s : State) → outcome_of s [] ≡ finish s
+unfolding outcome_of
+outcome_end s = refl
 
 abbrev pub is_repeat : Kind → Bool
 is_repeat times = true
@@ -62,6 +62,6 @@ finish_settles f fr d [] = refl
 finish_settles f fr d (o ∷ ctx) = refl
 
 -- an atom that is not repeated joins its branch
-pub settles : (f : Regex) (fr : Frame) (d : ℕ) (ctx : List Frame) (w : List ℕ) → NoRepeat w → verdict (state (after f) fr d ctx) w ≡ verdict (state ready (push f fr) d ctx) w
-settles f fr d ctx [] h = verdict_end _ ∙ finish_settles f fr d ctx ∙ sym (verdict_end _)
-settles f fr d ctx (b ∷ w) h = verdict_is _ b w ∙ ap (λ n. onward n w) (settled (kind b) b f fr d ctx h) ∙ sym (verdict_is _ b w)
+pub settles : (f : Regex) (fr : Frame) (d : ℕ) (ctx : List Frame) (w : List ℕ) → NoRepeat w → outcome_of (state (after f) fr d ctx) w ≡ outcome_of (state ready (push f fr) d ctx) w
+settles f fr d ctx [] h = outcome_end _ ∙ finish_settles f fr d ctx ∙ sym (outcome_end _)
+settles f fr d ctx (b ∷ w) h = outcome_is _ b w ∙ ap (λ n. onward n w) (settled (kind b) b f fr d ctx h) ∙ sym (outcome_is _ b w)

@@ -3,10 +3,10 @@ use Rattle.std.proofs.Common.{◌≡◌, ℕ, ◌<◌, List, [], ◌∷◌, ◌+
 use Rattle.std.specs.List.{AllByRecursion}
 use Rattle.notation.specs.Expressions.{Regex}
 use Rattle.notation.specs.Grammar.{Written, once, nothing}
-use Rattle.notation.specs.Automaton.{Frame, State, state, ready, after, escape, in_class, in_count, Next, dead, alive, good, bad, closed, push, step_of, finish, verdict, start}
+use Rattle.notation.specs.Automaton.{Frame, State, state, ready, after, escape, in_class, in_count, Next, dead, alive, good, bad, closed, push, step_of, finish, outcome_of, start}
 use Rattle.notation.proofs.Seen.{Open, Seen}
 use Rattle.notation.proofs.Steps.{Goes, shut, grow, written_is, step_goes}
-use Rattle.notation.proofs.Runs.{onward, verdict_is, verdict_end}
+use Rattle.notation.proofs.Runs.{onward, outcome_is, outcome_end}
 
 -- a byte is below 256, and a text is a list of bytes
 abbrev pub Bytes : List ℕ → Type 0
@@ -32,18 +32,18 @@ finish_sounds (state escape fr d ctx) w e seen same = never e 0 same
 finish_sounds (state (in_class rs c) fr d ctx) w e seen same = never e 0 same
 finish_sounds (state (in_count f c) fr d ctx) w e seen same = never e 0 same
 
-onward_sounds : (n : Next) (w p : List ℕ) (e : Regex) → Goes n w → ((t : State) → Seen t w → verdict t p ≡ good e → Written 16 (w ++ p) e) → onward n p ≡ good e → Written 16 (w ++ p) e
+onward_sounds : (n : Next) (w p : List ℕ) (e : Regex) → Goes n w → ((t : State) → Seen t w → outcome_of t p ≡ good e → Written 16 (w ++ p) e) → onward n p ≡ good e → Written 16 (w ++ p) e
 onward_sounds dead w p e goes rest is = never e _ is
 onward_sounds (alive t) w p e goes rest is = rest t goes is
 
-pub sounds : (s : State) (w p : List ℕ) (e : Regex) → Bytes p → Seen s w → verdict s p ≡ good e → Written 16 (w ++ p) e
-sounds s w [] e bytes seen is = subst (λ l. Written 16 l e) (sym (append-nil w)) (finish_sounds s w e seen (sym (verdict_end s) ∙ is))
+pub sounds : (s : State) (w p : List ℕ) (e : Regex) → Bytes p → Seen s w → outcome_of s p ≡ good e → Written 16 (w ++ p) e
+sounds s w [] e bytes seen is = subst (λ l. Written 16 l e) (sym (append-nil w)) (finish_sounds s w e seen (sym (outcome_end s) ∙ is))
 sounds s w (b ∷ p) e bytes seen is =
     subst (λ l. Written 16 l e) (append_assoc w (b ∷ []) p)
-    (onward_sounds (step_of s b) (w ++ b ∷ []) p e (step_goes s b w bytes.0 seen) (λ t goes. sounds t (w ++ b ∷ []) p e bytes.1 goes) (sym (verdict_is s b p) ∙ is))
+    (onward_sounds (step_of s b) (w ++ b ∷ []) p e (step_goes s b w bytes.0 seen) (λ t goes. sounds t (w ++ b ∷ []) p e bytes.1 goes) (sym (outcome_is s b p) ∙ is))
 
 pub seen_start : Seen start []
 seen_start = ([], [], [], refl, (refl, refl), nothing, refl)
 
-pub sound : (w : List ℕ) (e : Regex) → Bytes w → verdict start w ≡ good e → Written 16 w e
+pub sound : (w : List ℕ) (e : Regex) → Bytes w → outcome_of start w ≡ good e → Written 16 w e
 sound w e bytes is = sounds start [] w e bytes seen_start is

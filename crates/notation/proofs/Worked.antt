@@ -8,7 +8,7 @@ use Rattle.notation.specs.Places.{places}
 use Rattle.notation.specs.Grammar.{Written}
 use Rattle.notation.specs.Beginnings.{LongestBeginning}
 use Rattle.notation.specs.Meaning.{Lang, Empty, Union, Copies, Matches}
-use Rattle.notation.specs.Automaton.{good, bad, verdict, start}
+use Rattle.notation.specs.Automaton.{good, bad, outcome_of, start}
 use Rattle.notation.specs.Refusals.{refused}
 use Rattle.notation.specs.Reading.{ReadAs, Refused}
 use Rattle.notation.specs.Examples.{Examples}
@@ -23,14 +23,14 @@ bytes_by : (w : List ℕ) → all_bytes w ≡ true → Bytes w
 bytes_by [] e = tt
 bytes_by (b ∷ w) e = let p = and_parts _ _ e in (ltb-true b 256 p.0, bytes_by w p.1)
 
-read_as : (w : List ℕ) (e : Regex) → all_bytes w ≡ true → verdict start w ≡ good e → Written 16 w e
+read_as : (w : List ℕ) (e : Regex) → all_bytes w ≡ true → outcome_of start w ≡ good e → Written 16 w e
 read_as w e bytes is = sound w e (bytes_by w bytes) is
 
-refused_at : (w : List ℕ) (n k : ℕ) → all_bytes w ≡ true → length w ≤ 256 → verdict start w ≡ bad n → length w - n ≡ k → Refused w (refused BadlyWritten k)
+refused_at : (w : List ℕ) (n k : ℕ) → all_bytes w ≡ true → length w ≤ 256 → outcome_of start w ≡ bad n → length w - n ≡ k → Refused w (refused BadlyWritten k)
 refused_at w n k bytes short is place =
     inr (inl (short, not_written w n is, subst (LongestBeginning w) place (longest w n (bytes_by w bytes) is), refl))
 
-reads : (w : List ℕ) (e : Regex) → all_bytes w ≡ true → length w ≤ 256 → verdict start w ≡ good e → places e ≤ 63 → ReadAs w e
+reads : (w : List ℕ) (e : Regex) → all_bytes w ≡ true → length w ≤ 256 → outcome_of start w ≡ good e → places e ≤ 63 → ReadAs w e
 reads w e bytes short is few = record { short = short; written = read_as w e bytes is; few = few }
 
 abbrev letter : ℕ → Regex
@@ -48,7 +48,7 @@ not_empty b w e = omega (arith, ap length e)
 
 -- the empty pattern
 none_written : ReadAs [] empty
-unfolding verdict
+unfolding outcome_of
 none_written = reads [] empty refl (omega arith) refl (omega arith)
 
 -- (abc)*
@@ -59,7 +59,7 @@ abbrev stars : Regex
 stars = seq empty (star abc)
 
 stars_read : ReadAs (codes "(abc)*") stars
-unfolding verdict
+unfolding outcome_of
 stars_read = reads (codes "(abc)*") stars refl (omega arith) refl (omega arith)
 
 abc_in : Matches abc (codes "abc")
@@ -84,7 +84,7 @@ abbrev plusses : Regex
 plusses = seq (seq empty (plus (one ((65, 66) ∷ [])))) (letter 67)
 
 plusses_read : ReadAs (codes "[A-B]+C") plusses
-unfolding verdict
+unfolding outcome_of
 plusses_read = reads (codes "[A-B]+C") plusses refl (omega arith) refl (omega arith)
 
 plusses_yield : Matches plusses (codes "ABC")
@@ -102,7 +102,7 @@ abbrev counts : Regex
 counts = seq empty (counted 2 3 either)
 
 counts_read : ReadAs (codes "(a|b){2,3}") counts
-unfolding verdict
+unfolding outcome_of
 counts_read = reads (codes "(a|b){2,3}") counts refl (omega arith) refl (omega arith)
 
 counts_yield : Matches counts (codes "ab")
@@ -138,7 +138,7 @@ abbrev none_of : Regex
 none_of = seq empty (counted 0 0 (letter 97))
 
 none_read : ReadAs (codes "a{0}") none_of
-unfolding verdict
+unfolding outcome_of
 none_read = reads (codes "a{0}") none_of refl (omega arith) refl (omega arith)
 
 none_omits : Matches none_of (codes "a") → ⊥
@@ -148,7 +148,7 @@ abbrev times : ℕ → Regex
 times n = counted n n (letter 97)
 
 crowded : Refused (codes "a{32}a{32}") (refused TooManyPlaces 0)
-unfolding verdict
+unfolding outcome_of
 crowded = inr (inr (omega arith, seq (seq empty (times 32)) (times 32), read_as (codes "a{32}a{32}") (seq (seq empty (times 32)) (times 32)) refl refl, omega arith, refl))
 
 infixr 10 ◌and◌
@@ -159,7 +159,7 @@ abbrev full : Regex
 full = seq (seq empty (times 32)) (times 31)
 
 pub examples : Examples
-unfolding verdict
+unfolding outcome_of
 examples =
     (empty, none_written, refl)
     and (empty, none_written, refl)

@@ -3,7 +3,7 @@
 --   Frame         an open pattern: its finished branches, and the branch so far
 --   Mode          between two atoms, after an atom that can still be repeated, or inside a sign
 --   State         a mode, the innermost open pattern, the depth left, and the patterns around it
---   verdict s w   how w goes on from s: read as an expression, or refused with so many bytes unread
+--   outcome_of s w   how w goes on from s: read as an expression, or refused with so many bytes unread
 use Rattle.std.specs.Prelude.{ℕ, zero, suc, ◌+◌, ◌-◌, ◌*◌, Bool, cond, ◌&&◌, ◌||◌, List, [], ◌∷◌, ◌++◌, length, ◌==◌, nat_le}
 use Rattle.notation.specs.Characters.{Kind, bar, times, add, query, open', close', square, unsquare, brace, unbrace, dot, backslash, plain, kind, escapable, ClassKind, ends, slash, hyphen, barred, itself, class_kind}
 use Rattle.notation.specs.Expressions.{Range, Regex, byte, any, one, empty, seq, alt, star, plus, opt, counted}
@@ -183,9 +183,9 @@ finish (state (in_count f c) fr d ctx) = bad 0
 abbrev pub step_of : State → ℕ → Next
 step_of (state m fr d ctx) b = step m b fr d ctx
 
-unfoldable pub verdict : State → List ℕ → Outcome
-verdict s [] = finish s
-verdict s (b ∷ w) = elim (step_of s b) [ dead ↦ bad (suc (length w)) | alive t ↦ verdict t w ]
+unfoldable pub outcome_of : State → List ℕ → Outcome
+outcome_of s [] = finish s
+outcome_of s (b ∷ w) = elim (step_of s b) [ dead ↦ bad (suc (length w)) | alive t ↦ outcome_of t w ]
 
 abbrev pub start : State
 start = state ready opened 16 []

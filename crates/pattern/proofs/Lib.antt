@@ -5,6 +5,7 @@ pub mod CountWays
 pub mod ClassWays
 pub mod ClassLoop
 pub mod ClassMembers
+pub mod Waiting
 pub mod SignWays
 pub mod Drafting
 pub mod Walking

@@ -4,7 +4,7 @@ use Rattle.pattern.specs.declared.sign.Sign.{Sign}
 use Rattle.pattern.specs.declared.sign.Sign.TheVariants.{Plain, Escape, Any, Class, Bar, Star, Plus, Question, Counted, Open, Close, End}
 use Rattle.notation.specs.Expressions.{Regex, empty}
 use Rattle.notation.specs.Grammar.{Atom, a_plain, an_escape, a_dot, a_class, a_group, Repeated, by_star, by_plus, by_opt, by_count}
-use Rattle.notation.specs.Automaton.{Frame, Mode, verdict}
+use Rattle.notation.specs.Automaton.{Frame, Mode, outcome_of}
 use Rattle.pattern.specs.Drafts.{AtomKept, Grows, by_atom, by_bar, by_repeat}
 use Rattle.pattern.specs.Signs.{text, is_end, is_inner, Formed, Handed, Waits}
 use Rattle.pattern.specs.Walks.{Leads, Steps, GroupRead}
@@ -58,7 +58,7 @@ module _ (p : List ℕ) (at d : ℕ) (r : Bool) (K K' : Mode → Frame → Type 
     grown (by_atom e atom told) =
         steps (atom_long atom)
         (atom_leads p at d r K waits (at + n) K' e (subst NoRepeat (sym here) (atom_no_repeat (λ _ _. ⊥) d (λ v e g. absurd g) atom _))
-        (λ fr ctx. ap (verdict _) here ∙ atom_runs (λ _ _. ⊥) d (λ v e g. absurd g) atom fr ctx (drop (at + n) p)) told)
+        (λ fr ctx. ap (outcome_of _) here ∙ atom_runs (λ _ _. ⊥) d (λ v e g. absurd g) atom fr ctx (drop (at + n) p)) told)
     grown (by_bar is told) = steps (omega (arith, ap length is)) (bar_leads p at d r K waits (at + n) K' (here ∙ ap (λ l. l ++ drop (at + n) p) is) told)
     grown (by_repeat again g written told) = steps (repeat_long (written empty)) (repeat_leads p at d r K waits (at + n) K' (text s) g written again here told)
 

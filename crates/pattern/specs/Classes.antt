@@ -13,7 +13,7 @@ use Rattle.pattern.specs.declared.class.Taken.TheVariants.{Inside, Ended}
 use Rattle.notation.specs.Characters.{class_kind}
 use Rattle.notation.specs.Expressions.{Range}
 use Rattle.notation.specs.Grammar.{Members}
-use Rattle.notation.specs.Automaton.{Frame, state, in_class, ClassState, fresh, in_escape, member, dashed, dashed_escape, ClassNext, no_class, inside, finished, class_next, verdict}
+use Rattle.notation.specs.Automaton.{Frame, state, in_class, ClassState, fresh, in_escape, member, dashed, dashed_escape, ClassNext, no_class, inside, finished, class_next, outcome_of}
 use Rattle.notation.specs.Refusals.{Stops}
 
 abbrev pub state_of : Progress → ClassState
@@ -60,7 +60,7 @@ pub record ClassRead (p : List ℕ) (at end : ℕ) : Type 0 where
   pub written : Members (slice_range p at end) members
 
 abbrev pub ClassStops : List ℕ → ℕ → Fault → Type 0
-ClassStops p at f = (fr : Frame) (d : ℕ) (ctx : List Frame) → Stops p f (verdict (state (in_class [] fresh) fr d ctx) (drop at p))
+ClassStops p at f = (fr : Frame) (d : ℕ) (ctx : List Frame) → Stops p f (outcome_of (state (in_class [] fresh) fr d ctx) (drop at p))
 
 -- no class stands from `at` on, and the fault has its place
 pub record ClassRefused (p : List ℕ) (at : ℕ) (f : Fault) : Type 0 where

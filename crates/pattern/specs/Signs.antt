@@ -10,7 +10,7 @@ use Rattle.pattern.specs.declared.sign.Sign.TheVariants.{Plain, Escape, Any, Cla
 use Rattle.notation.specs.Characters.{kind, plain, escapable}
 use Rattle.notation.specs.Expressions.{Range, Regex}
 use Rattle.notation.specs.Grammar.{Members, Atom, Repeated}
-use Rattle.notation.specs.Automaton.{Frame, Mode, ready, after, escape, in_class, in_count, state, verdict}
+use Rattle.notation.specs.Automaton.{Frame, Mode, ready, after, state, outcome_of}
 use Rattle.notation.specs.Refusals.{Stops}
 use Rattle.pattern.specs.Repeats.{Braced}
 
@@ -82,19 +82,11 @@ is_inner End = false
 
 -- in whichever mode the automaton waits for a sign, the fault has the place where it stops
 abbrev pub Waits : Bool → Mode → Type 0
-Waits false ready = Unit {0}
-Waits false (after f) = ⊥
-Waits false escape = ⊥
-Waits false (in_class rs c) = ⊥
-Waits false (in_count f c) = ⊥
-Waits true ready = ⊥
-Waits true (after f) = Unit {0}
-Waits true escape = ⊥
-Waits true (in_class rs c) = ⊥
-Waits true (in_count f c) = ⊥
+Waits false m = m ≡ ready
+Waits true m = (f : Regex) × (m ≡ after f)
 
 abbrev pub SignStops : List ℕ → ℕ → Bool → Fault → Type 0
-SignStops p at repeatable f = (m : Mode) → Waits repeatable m → (fr : Frame) (d : ℕ) (ctx : List Frame) → Stops p f (verdict (state m fr d ctx) (drop at p))
+SignStops p at repeatable f = (m : Mode) → Waits repeatable m → (fr : Frame) (d : ℕ) (ctx : List Frame) → Stops p f (outcome_of (state m fr d ctx) (drop at p))
 
 -- no sign stands at `at`, and the fault has its place
 pub record SignRefused (p : List ℕ) (at : ℕ) (repeatable : Bool) (f : Fault) : Type 0 where

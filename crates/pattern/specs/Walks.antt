@@ -9,7 +9,7 @@ use Rattle.pattern.specs.declared.cursor.Cursor.{Cursor}
 use Rattle.pattern.specs.declared.draft.Draft.{Draft}
 use Rattle.pattern.specs.Drafts.{Keeps}
 use Rattle.notation.specs.Expressions.{Regex}
-use Rattle.notation.specs.Automaton.{Frame, Mode, ready, after, state, opened, closed, verdict}
+use Rattle.notation.specs.Automaton.{Frame, Mode, ready, after, state, opened, closed, outcome_of}
 use Rattle.notation.specs.Refusals.{Stops}
 
 -- here the innermost open pattern ends
@@ -20,7 +20,7 @@ pub record Leads (p : List ℕ) (at d end : ℕ) (m : Mode) (fr : Frame) (K : Mo
   pub mode : Mode
   pub frame : Frame
   pub keeps : K mode frame
-  pub runs : (ctx : List Frame) → verdict (state m fr d ctx) (drop at p) ≡ verdict (state mode frame d ctx) (drop end p)
+  pub runs : (ctx : List Frame) → outcome_of (state m fr d ctx) (drop at p) ≡ outcome_of (state mode frame d ctx) (drop end p)
 
 pub record Steps (p : List ℕ) (at d : ℕ) (K : Mode → Frame → Type 0) (end : ℕ) (K' : Mode → Frame → Type 0) : Type 0 where
   pub forward : at < end
@@ -32,17 +32,17 @@ abbrev pub Stepped : {T : Type 0} → (T → Regex → Type 0) → Cursor → �
 Stepped S from d draft o = MatchOption o (Halts from.pattern.now from.at) (λ x. Steps from.pattern.now from.at d (Keeps S draft) x.0.at (Keeps S x.1))
 
 abbrev pub StepStops : List ℕ → ℕ → ℕ → (Mode → Frame → Type 0) → Fault → Type 0
-StepStops p at d K f = (m : Mode) (fr : Frame) → K m fr → (ctx : List Frame) → Stops p f (verdict (state m fr d ctx) (drop at p))
+StepStops p at d K f = (m : Mode) (fr : Frame) → K m fr → (ctx : List Frame) → Stops p f (outcome_of (state m fr d ctx) (drop at p))
 
 pub record GroupRead (p : List ℕ) (at d end : ℕ) (E : Regex → Type 0) : Type 0 where
   pub forward : at < end
   pub within : end ≤ length p
   pub expression : Regex
   pub value : E expression
-  pub runs : (fr : Frame) (ctx : List Frame) → verdict (state ready fr d ctx) (drop at p) ≡ verdict (state (after expression) fr d ctx) (drop end p)
+  pub runs : (fr : Frame) (ctx : List Frame) → outcome_of (state ready fr d ctx) (drop at p) ≡ outcome_of (state (after expression) fr d ctx) (drop end p)
 
 abbrev pub GroupStops : List ℕ → ℕ → ℕ → Fault → Type 0
-GroupStops p at d f = (fr : Frame) (ctx : List Frame) → Stops p f (verdict (state ready fr d ctx) (drop at p))
+GroupStops p at d f = (fr : Frame) (ctx : List Frame) → Stops p f (outcome_of (state ready fr d ctx) (drop at p))
 
 pub record AlternativesRead (p : List ℕ) (from d end : ℕ) (E : Regex → Type 0) : Type 0 where
   pub forward : from ≤ end
@@ -50,7 +50,7 @@ pub record AlternativesRead (p : List ℕ) (from d end : ℕ) (E : Regex → Typ
   pub halts : Halts p end
   pub frame : Frame
   pub value : E (closed frame)
-  pub runs : (ctx : List Frame) → verdict (state ready opened d ctx) (drop from p) ≡ verdict (state ready frame d ctx) (drop end p)
+  pub runs : (ctx : List Frame) → outcome_of (state ready opened d ctx) (drop from p) ≡ outcome_of (state ready frame d ctx) (drop end p)
 
 abbrev pub AlternativesStop : List ℕ → ℕ → ℕ → Fault → Type 0
-AlternativesStop p from d f = (ctx : List Frame) → Stops p f (verdict (state ready opened d ctx) (drop from p))
+AlternativesStop p from d f = (ctx : List Frame) → Stops p f (outcome_of (state ready opened d ctx) (drop from p))
