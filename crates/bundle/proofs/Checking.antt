@@ -3,10 +3,10 @@ use Rattle.std.proofs.Common.{◌≡◌, ℕ, ◌↔◌, List, Err, Result, sym,
 use Rattle.std.specs.List.{AllByRecursion}
 use Rattle.fault.specs.declared.Fault.{Fault}
 use Rattle.folding.specs.Texts.{Bytes}
-use Rattle.pattern.specs.Expressions.{Regex}
-use Rattle.pattern.specs.Grammar.{Written, deepest}
-use Rattle.pattern.specs.Meaning.{Matches}
-use Rattle.pattern.specs.Reading.{ReadAs, Granted, Refused}
+use Rattle.notation.specs.Expressions.{Regex}
+use Rattle.notation.specs.Grammar.{Written, deepest}
+use Rattle.notation.specs.Meaning.{Matches}
+use Rattle.notation.specs.Reading.{ReadAs, Granted, Refused}
 use Rattle.bundle.specs.Checks.{Checked}
 use Rattle.bundle.specs.Layout.{Piece, OfBytes}
 use Rattle.bundle.specs.Outcome.{opened, filed, Reported}

@@ -7,9 +7,9 @@
 use Rattle.std.specs.Prelude.{◌≡◌, ℕ, ◌⊎◌, List, Ok, Err, Result}
 use Rattle.fault.specs.Lines.{line}
 use Rattle.fault.specs.declared.Fault.{Fault}
-use Rattle.pattern.specs.Expressions.{Regex}
-use Rattle.pattern.specs.Meaning.{Matches}
-use Rattle.pattern.specs.Reading.{ReadAs, Refused}
+use Rattle.notation.specs.Expressions.{Regex}
+use Rattle.notation.specs.Meaning.{Matches}
+use Rattle.notation.specs.Reading.{ReadAs, Refused}
 use Rattle.bundle.specs.Layout.{Piece, written}
 use Rattle.bundle.specs.Lines.{lines}
 use Rattle.bundle.specs.Outcome.{opened, filed, Reported}

@@ -4,9 +4,9 @@
 --   Whole ..           the law over runs for two judging machines, and where their sets come from
 use Rattle.std.specs.Prelude.{List, ◌↔◌, ℕ}
 use Rattle.folding.specs.Texts.{Bytes}
-use Rattle.pattern.specs.Expressions.{Regex}
-use Rattle.pattern.specs.Meaning.{Matches}
-use Rattle.pattern.specs.Reading.{ReadAs, Readable}
+use Rattle.notation.specs.Expressions.{Regex}
+use Rattle.notation.specs.Meaning.{Matches}
+use Rattle.notation.specs.Reading.{ReadAs, Readable}
 use Rattle.machines.specs.Place.Built.{Built}
 use Rattle.machines.specs.contracts.place.PlaceMachineFolding.TheImpl.{ghosts as place_folding}
 use Rattle.machines.specs.contracts.place.PlaceMachineJudging.TheImpl.{ghosts as place_judging}

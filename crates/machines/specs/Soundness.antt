@@ -3,7 +3,7 @@
 --   Sound ok e  each symbol of e satisfies `ok`, and no count asks for more than it allows
 --   Sane e      each symbol of e takes some byte, and no count asks for more than it allows
 use Rattle.std.specs.Prelude.{ℕ, ◌<◌, ◌≤◌}
-use Rattle.pattern.specs.Expressions.{Expr, one, empty, seq, alt, star, plus, opt, counted, Regex, Symbol, Takes}
+use Rattle.notation.specs.Expressions.{Expr, one, empty, seq, alt, star, plus, opt, counted, Regex, Symbol, Takes}
 
 abbrev pub Sound : {S : Type 0} → (S → Type 0) → Expr S → Type 0
 Sound ok (one s) = ok s

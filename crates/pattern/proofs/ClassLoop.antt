@@ -1,5 +1,5 @@
 -- What the class reader has seen after each byte, and the three ways out of its loop. Assumes nothing.
-use Rattle.std.proofs.Common.{◌≡◌, ℕ, ◌+◌, ◌-◌, ◌<◌, ◌≤◌, None, Some, List, [], ◌∷◌, ◌++◌, length, get_or, take, drop, sym, refl, ap, ◌∙◌, subst, ⊎_elim, append_assoc, arith, length-drop}
+use Rattle.std.proofs.Common.{◌≡◌, ℕ, ◌+◌, ◌-◌, ◌<◌, ◌≤◌, Option, None, Some, List, [], ◌∷◌, ◌++◌, length, get_or, take, drop, sym, refl, ap, ◌∙◌, subst, ⊎_elim, append_assoc, arith, length-drop}
 use Rattle.std.proofs.lemmas.List.{take_more, get_or-drop}
 use Rattle.std.proofs.lemmas.Bool.{cases_lt}
 use Rattle.fault.specs.declared.Fault.{Fault}
@@ -7,19 +7,19 @@ use Rattle.fault.specs.declared.Refusal.TheVariants.{BadlyWritten}
 use Rattle.pattern.specs.declared.class.Progress.{Progress}
 use Rattle.pattern.specs.declared.class.Progress.TheVariants.{Empty}
 use Rattle.pattern.specs.declared.class.Taken.TheVariants.{Inside, Ended}
-use Rattle.pattern.specs.Expressions.{Range, one}
-use Rattle.pattern.specs.Grammar.{Members, none}
-use Rattle.pattern.specs.Characters.{class_kind}
-use Rattle.pattern.specs.Automaton.{Frame, state, opened, after, bad, in_class, fresh, class_next, of_class, inside, verdict}
-use Rattle.pattern.specs.Classes.{state_of, Suits, Follows, ClassRead, ClassStops, ClassRefused}
-use Rattle.pattern.specs.Refusals.{refused}
-use Rattle.pattern.proofs.Seen.{Class}
-use Rattle.pattern.proofs.ClassSeen.{class_goes, Goes}
+use Rattle.notation.specs.Expressions.{Range, one}
+use Rattle.notation.specs.Grammar.{Members, none}
+use Rattle.notation.specs.Characters.{class_kind}
+use Rattle.notation.specs.Automaton.{Frame, state, opened, after, bad, in_class, fresh, class_next, of_class, inside, outcome_of}
+use Rattle.pattern.specs.Classes.{state_of, Suits, with_last, Follows, ClassRead, ClassStops, ClassRefused}
+use Rattle.notation.specs.Refusals.{refused}
+use Rattle.notation.proofs.Seen.{Class}
+use Rattle.notation.proofs.ClassSeen.{class_goes, Goes}
 use Rattle.pattern.proofs.Slices.{drop_is, stops_at, stopped, split_at}
-use Rattle.pattern.proofs.Runs.{verdict_alive, verdict_end}
-use Rattle.pattern.proofs.ClassRuns.{class_runs}
-use Rattle.pattern.proofs.Sounds.{never}
-use Rattle.pattern.proofs.Faults.{unread}
+use Rattle.notation.proofs.Runs.{outcome_alive, outcome_end}
+use Rattle.notation.proofs.ClassRuns.{class_runs}
+use Rattle.notation.proofs.Sounds.{never}
+use Rattle.notation.proofs.Faults.{unread}
 
 -- no class ends before i
 abbrev Open : List ℕ → ℕ → ℕ → Type 0
@@ -31,12 +31,12 @@ pub record Far (p : List ℕ) (at i : ℕ) (progress : Progress) : Type 0 where
   pub suits : Suits ranges progress
   pub class : Class ranges (state_of progress) (take (i - at) (drop at p))
   pub over : (fr : Frame) (d : ℕ) (ctx : List Frame) (w : List ℕ)
-      → verdict (state (in_class [] fresh) fr d ctx) (take (i - at) (drop at p) ++ w) ≡ verdict (state (in_class ranges (state_of progress)) fr d ctx) w
+      → outcome_of (state (in_class [] fresh) fr d ctx) (take (i - at) (drop at p) ++ w) ≡ outcome_of (state (in_class ranges (state_of progress)) fr d ctx) w
   pub open' : Open p at i
 
 runs : (p : List ℕ) (at i : ℕ) (progress : Progress) (far : Far p at i progress) (fr : Frame) (d : ℕ) (ctx : List Frame)
-    → verdict (state (in_class [] fresh) fr d ctx) (drop at p) ≡ verdict (state (in_class far.ranges (state_of progress)) fr d ctx) (drop i p)
-runs p at i progress far fr d ctx = ap (verdict _) (split_at p at i far.forward) ∙ far.over fr d ctx (drop i p)
+    → outcome_of (state (in_class [] fresh) fr d ctx) (drop at p) ≡ outcome_of (state (in_class far.ranges (state_of progress)) fr d ctx) (drop i p)
+runs p at i progress far fr d ctx = ap (outcome_of _) (split_at p at i far.forward) ∙ far.over fr d ctx (drop i p)
 
 pub far_none : (p : List ℕ) (at : ℕ) → Far p at at Empty
 far_none p at =
@@ -46,7 +46,7 @@ far_none p at =
       ranges = [];
       suits = refl;
       class = subst (λ n. Class [] fresh (take n (drop at p))) none_yet ([], [], refl, none, refl);
-      over = λ fr d ctx w. ap (λ n. verdict (state (in_class [] fresh) fr d ctx) (take n (drop at p) ++ w)) (sym none_yet);
+      over = λ fr d ctx w. ap (λ n. outcome_of (state (in_class [] fresh) fr d ctx) (take n (drop at p) ++ w)) (sym none_yet);
       open' = λ n rs lt _ _ _. omega arith;
     }
 
@@ -64,7 +64,7 @@ class_none p at i f none_yet stop is n rs members some inside' bracket =
     let s = stop opened 0 [] in
     let back : at + n - at ≡ n = omega arith in
     let parts : drop at p ≡ take n (drop at p) ++ (93 ∷ drop (at + n + 1) p) = split_at p at (at + n) (omega arith) ∙ (λ j. take (back j) (drop at p) ++ drop_is p (at + n) 93 inside' bracket j) in
-    let over : verdict (state (after (one rs)) opened 0 []) (drop (at + n + 1) p) ≡ bad (length p - f.place) = sym (ap (verdict _) parts ∙ class_runs opened 0 [] members some _) ∙ s.unread in
+    let over : outcome_of (state (after (one rs)) opened 0 []) (drop (at + n + 1) p) ≡ bad (length p - f.place) = sym (ap (outcome_of _) parts ∙ class_runs opened 0 [] members some _) ∙ s.unread in
     let few = unread _ (drop (at + n + 1) p) _ over in
     none_yet n rs (omega (arith, length-drop (at + n + 1) p, s.within, ap (λ x. x.place) is)) members some bracket
 
@@ -80,15 +80,16 @@ module _ (p : List ℕ) (at i b : ℕ) (old : Progress) (lt : i < length p) (byt
       → class_next (class_kind b) b far.ranges (state_of old) ≡ inside rs (state_of new) → ⊥
   goes_on ms members some bracket rs new is =
       let v = take (i - at) (drop at p) in
-      let ended = class_runs opened 0 [] members some [] ∙ verdict_end (state (after (one ms)) opened 0 []) in
+      let ended = class_runs opened 0 [] members some [] ∙ outcome_end (state (after (one ms)) opened 0 []) in
       let not_ended =
-      far.over opened 0 [] (93 ∷ []) ∙ ap (λ x. verdict (state (in_class far.ranges (state_of old)) opened 0 []) (x ∷ [])) (sym bracket)
-      ∙ verdict_alive _ (state (in_class rs (state_of new)) opened 0 []) b [] (ap (λ n. of_class n opened 0 []) is) ∙ verdict_end (state (in_class rs (state_of new)) opened 0 []) in
+      far.over opened 0 [] (93 ∷ []) ∙ ap (λ x. outcome_of (state (in_class far.ranges (state_of old)) opened 0 []) (x ∷ [])) (sym bracket)
+      ∙ outcome_alive _ (state (in_class rs (state_of new)) opened 0 []) b [] (ap (λ n. of_class n opened 0 []) is) ∙ outcome_end (state (in_class rs (state_of new)) opened 0 []) in
       never _ 0 (sym not_ended ∙ ended)
 
-  pub far_more : (new : Progress) → Follows old b (Some Inside) new → Far p at (i + 1) new
-  far_more new follows =
-      let (rs, is, suits) = follows far.ranges far.suits in
+  pub far_more : (f : Option Range) (new : Progress) → Follows old b (Some (Inside f)) new → Far p at (i + 1) new
+  far_more f new follows =
+      let (is, suits) = follows far.ranges far.suits in
+      let rs = with_last far.ranges f in
       let le = far.forward in
       record {
         forward = omega arith;
@@ -96,19 +97,19 @@ module _ (p : List ℕ) (at i b : ℕ) (old : Progress) (lt : i < length p) (byt
         suits = suits;
         class = subst (Class rs (state_of new)) (sym longer) (subst (λ n. Goes n (take (i - at) (drop at p)) b) is goes);
         over = λ fr d ctx w.
-            ap (λ l. verdict (state (in_class [] fresh) fr d ctx) (l ++ w)) longer ∙ ap (verdict _) (append_assoc (take (i - at) (drop at p)) (b ∷ []) w)
-            ∙ far.over fr d ctx (b ∷ w) ∙ verdict_alive _ (state (in_class rs (state_of new)) fr d ctx) b w (ap (λ n. of_class n fr d ctx) is);
+            ap (λ l. outcome_of (state (in_class [] fresh) fr d ctx) (l ++ w)) longer ∙ ap (outcome_of _) (append_assoc (take (i - at) (drop at p)) (b ∷ []) w)
+            ∙ far.over fr d ctx (b ∷ w) ∙ outcome_alive _ (state (in_class rs (state_of new)) fr d ctx) b w (ap (λ n. of_class n fr d ctx) is);
         open' = λ n ms small' members some bracket.
             ⊎_elim (λ (before : n < i - at). far.open' n ms before members some bracket)
             (λ (ge : i - at ≤ n). let here : n ≡ i - at = omega arith in goes_on ms (subst (λ k. Members (take k (drop at p)) ms) here members) some (let place : at + n ≡ i = omega arith in sym byte ∙ ap (λ k. get_or p k 0) (sym place) ∙ bracket) rs new is)
             (cases_lt n (i - at));
       }
 
-  pub far_ended : (new : Progress) → Follows old b (Some Ended) new → ClassRead p at i
-  far_ended new follows =
-      let (rs, is) = follows far.ranges far.suits in
+  pub far_ended : (f : Option Range) (new : Progress) → Follows old b (Some (Ended f)) new → ClassRead p at i
+  far_ended f new follows =
+      let is = follows far.ranges far.suits in
       let (bracket, some, ms) = subst (λ n. Goes n (take (i - at) (drop at p)) b) is goes in
-      record { forward = far.forward; within = lt; bracket = byte ∙ bracket; members = rs; some = some; written = ms }
+      record { forward = far.forward; within = lt; bracket = byte ∙ bracket; members = with_last far.ranges f; some = some; written = ms }
 
   pub far_refused : (new : Progress) (f : Fault) → Follows old b None new → f ≡ refused BadlyWritten i → ClassRefused p at f
   far_refused new f follows is = record { none = class_none p at i f far.open' stop is; stops = stop }

@@ -7,14 +7,14 @@ use Rattle.std.proofs.lemmas.List.{take_at, take_all, get_or_at, get_or_append_l
 use Rattle.std.proofs.lemmas.Bool.{cond-false, lt-leb, cases_lt}
 use Rattle.fault.specs.declared.Fault.{Fault}
 use Rattle.fault.specs.declared.Refusal.TheVariants.{BadlyWritten}
-use Rattle.pattern.specs.Expressions.{empty}
-use Rattle.pattern.specs.Grammar.{Counts, exactly, between}
-use Rattle.pattern.specs.Automaton.{state, in_count, awaiting, digits, CountKind, digit, comma, ended, other, no_count, least, most, count_can_go_on, count_next, of_count, opened, bad, verdict}
-use Rattle.pattern.specs.Refusals.{Stops, refused}
+use Rattle.notation.specs.Expressions.{empty}
+use Rattle.notation.specs.Grammar.{Counts, exactly, between}
+use Rattle.notation.specs.Automaton.{state, in_count, awaiting, digits, CountKind, digit, comma, ended, other, no_count, least, most, count_can_go_on, count_next, of_count, opened, bad, outcome_of}
+use Rattle.notation.specs.Refusals.{Stops, refused}
 use Rattle.pattern.specs.Repeats.{NumberRead, NumberRefused, Braced, CountsRead, CountsStop, CountsRefused}
-use Rattle.pattern.proofs.Chars.{InCount, in_count_lem}
-use Rattle.pattern.proofs.CountRuns.{counts_run, decimal_two}
-use Rattle.pattern.proofs.Faults.{unread}
+use Rattle.notation.proofs.Chars.{InCount, in_count_lem}
+use Rattle.notation.proofs.CountRuns.{counts_run, decimal_two}
+use Rattle.notation.proofs.Faults.{unread}
 use Rattle.pattern.proofs.Slices.{drop_is, moves, stops_at, stopped}
 
 -- after the first count only a brace or a comma goes on
@@ -64,7 +64,7 @@ counts_none p at end f u rest stop is begun long low k m n counts =
     let left = drop k (drop at p) in
     let (v, ends, _) = ends_so counts in
     let parts : drop at p ≡ (v ++ 125 ∷ []) ++ left = sym (take-append-drop k (drop at p)) ∙ ap (λ l. l ++ left) ends in
-    let over : verdict _ left ≡ bad (length p - f.place) = sym (ap (verdict _) (sym (take-append-drop k (drop at p))) ∙ counts_run empty opened 0 [] counts left) ∙ s.unread in
+    let over : outcome_of _ left ≡ bad (length p - f.place) = sym (ap (outcome_of _) (sym (take-append-drop k (drop at p))) ∙ counts_run empty opened 0 [] counts left) ∙ s.unread in
     let few = unread _ left _ over in
     let sizes : length p - at ≡ length v + 1 + length left = sym (length-drop at p) ∙ ap length parts ∙ length-append (v ++ 125 ∷ []) left ∙ ap (λ x. x + length left) (length-append v (125 ∷ [])) in
     let inside : length v < length u = omega (arith, s.within, ap (λ x. x.place) is) in

@@ -4,11 +4,11 @@ use Rattle.std.proofs.lemmas.Fmt.{decimal_digit}
 use Rattle.std.proofs.lemmas.Bool.{and_parts, leb-true, lt-leb, and_right}
 use Rattle.fault.specs.declared.Fault.{Fault}
 use Rattle.fault.specs.declared.Refusal.TheVariants.{BadlyWritten}
-use Rattle.pattern.specs.Automaton.{state, in_count, awaiting, digits, CountKind, digit, comma, ended, other, no_count, counting, Stage, bound, count_can_begin, count_can_go_on, count_kind, count_next, of_count}
-use Rattle.pattern.specs.Refusals.{refused}
+use Rattle.notation.specs.Automaton.{state, in_count, awaiting, digits, CountKind, digit, comma, ended, other, no_count, counting, Stage, bound, count_can_begin, count_can_go_on, count_kind, count_next, of_count}
+use Rattle.notation.specs.Refusals.{refused}
 use Rattle.pattern.specs.Repeats.{NumberRead, NumberRefused}
-use Rattle.pattern.proofs.Chars.{digit_kind}
-use Rattle.pattern.proofs.CountRuns.{decimal_two}
+use Rattle.notation.proofs.Chars.{digit_kind}
+use Rattle.notation.proofs.CountRuns.{decimal_two}
 use Rattle.pattern.proofs.Slices.{drop_is, moves, stops_at, stopped}
 
 awaits_digit : (k : CountKind) (s : Stage) → ((n : ℕ) → k ≡ digit n → ⊥) → count_next k (awaiting s) ≡ no_count

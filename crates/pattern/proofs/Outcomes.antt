@@ -4,26 +4,26 @@ use Rattle.std.proofs.ByRecursion.{All-from_get_or}
 use Rattle.std.proofs.lemmas.List.{drop_all}
 use Rattle.fault.specs.declared.Fault.{Fault}
 use Rattle.fault.specs.declared.Refusal.TheVariants.{BadlyWritten, TooManyPlaces}
-use Rattle.pattern.specs.Characters.{kind}
-use Rattle.pattern.specs.Places.{places}
-use Rattle.pattern.specs.Expressions.{Regex, empty}
-use Rattle.pattern.specs.Grammar.{Written, lone, nothing}
-use Rattle.pattern.specs.Beginnings.{LongestBeginning}
-use Rattle.pattern.specs.Automaton.{closed, begin, verdict, start}
-use Rattle.pattern.specs.Refusals.{Stops, refused}
-use Rattle.pattern.specs.Reading.{Granted, Readable, Bad, Unwritten, Refused, Assembled}
+use Rattle.notation.specs.Characters.{kind}
+use Rattle.notation.specs.Places.{places}
+use Rattle.notation.specs.Expressions.{Regex, empty}
+use Rattle.notation.specs.Grammar.{Written, lone, nothing}
+use Rattle.notation.specs.Beginnings.{LongestBeginning}
+use Rattle.notation.specs.Automaton.{closed, begin, outcome_of, start}
+use Rattle.notation.specs.Refusals.{Stops, refused}
+use Rattle.notation.specs.Reading.{Granted, Readable, Bad, Unwritten, Refused, Assembled}
 use Rattle.pattern.specs.Walks.{AlternativesRead, AlternativesStop}
-use Rattle.pattern.proofs.Runs.{verdict_end}
+use Rattle.notation.proofs.Runs.{outcome_end}
 use Rattle.pattern.proofs.Slices.{stops_inside, stopped}
-use Rattle.pattern.proofs.Sounds.{Bytes, sound}
-use Rattle.pattern.proofs.Completes.{one_reading}
-use Rattle.pattern.proofs.Faults.{longest, not_written}
+use Rattle.notation.proofs.Sounds.{Bytes, sound}
+use Rattle.notation.proofs.Completes.{one_reading}
+use Rattle.notation.proofs.Faults.{longest, not_written}
 
 pub bytes_slice : (p : List ℕ) → ((i : ℕ) → Fits w8 (get_or p i 0)) → Bytes p
 bytes_slice p fits = All-from_get_or (λ b. b < 256) p 0 (λ i _. (fits i).fits)
 
 module _ (p : List ℕ) (bytes : Bytes p) (short : length p ≤ 256) where
-  stopped_bad : (f : Fault) → Stops p f (verdict start p) → Bad p f
+  stopped_bad : (f : Fault) → Stops p f (outcome_of start p) → Bad p f
   stopped_bad f stop =
       let within = stop.within in
       let place : length p - (length p - f.place) ≡ f.place = omega arith in
@@ -39,7 +39,7 @@ module _ (p : List ℕ) (bytes : Bytes p) (short : length p ≤ 256) where
   pub assembled : {T : Type 0} (S : T → Regex → Type 0) (part : T) (end : ℕ) → AlternativesRead p 0 16 end (S part) → length p ≤ end → Assembled S p part
   assembled S part end read ge =
       let e = closed read.frame in
-      let written : Written 16 p e = sound p _ bytes (read.runs [] ∙ ap (verdict _) (drop_all end p ge) ∙ verdict_end _) in
+      let written : Written 16 p e = sound p _ bytes (read.runs [] ∙ ap (outcome_of _) (drop_all end p ge) ∙ outcome_end _) in
       record { expression = e; short = short; written = written; stands = λ f is. subst (S part) (one_reading p e f written is) read.value }
 
 pub empty_readable : (w : List ℕ) → w ≡ [] → Readable w

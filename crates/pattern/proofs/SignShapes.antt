@@ -3,9 +3,9 @@ use Rattle.std.proofs.Common.{◌≡◌, ℕ, zero, suc, ◌+◌, ◌-◌, ◌<�
 use Rattle.std.proofs.lemmas.List.{take_at, get_or_at, get_or-drop}
 use Rattle.std.proofs.lemmas.Bool.{true≢false}
 use Rattle.fault.specs.declared.Fault.{Fault}
-use Rattle.pattern.specs.Characters.{Kind, bar, times, add, query, open', close', square, unsquare, brace, unbrace, dot, backslash, plain, kind, escapable}
-use Rattle.pattern.specs.Expressions.{Range, Regex}
-use Rattle.pattern.specs.Grammar.{Members, Counts, Atom, a_plain, an_escape, a_dot, a_class, a_group, Repeated, by_star, by_plus, by_opt, by_count}
+use Rattle.notation.specs.Characters.{Kind, bar, times, add, query, open', close', square, unsquare, brace, unbrace, dot, backslash, plain, kind, escapable}
+use Rattle.notation.specs.Expressions.{Range, Regex}
+use Rattle.notation.specs.Grammar.{Members, Counts, Atom, a_plain, an_escape, a_dot, a_class, a_group, Repeated, by_star, by_plus, by_opt, by_count}
 use Rattle.pattern.specs.Signs.{SignText, an_atom, a_bar, an_open, a_close, a_repeat}
 use Rattle.pattern.specs.Classes.{ClassRefused}
 use Rattle.pattern.specs.Repeats.{CountsRefused}

@@ -3,13 +3,14 @@ use Rattle.std.proofs.Common.{◌≡◌, ℕ, ◌+◌, ◌-◌, ◌<◌, Bool, t
 use Rattle.std.proofs.lemmas.Bool.{cond-false, ne_eqb}
 use Rattle.fault.specs.declared.Fault.{Fault}
 use Rattle.fault.specs.declared.Refusal.TheVariants.{BadlyWritten}
-use Rattle.pattern.specs.Characters.{kind, plain, escapable}
-use Rattle.pattern.specs.Automaton.{Frame, Mode, ready, after, escape, in_class, in_count, fresh, awaiting, least, state, dead, alive, push, begin, repeat_or, step, verdict}
-use Rattle.pattern.specs.Refusals.{Stops, refused}
+use Rattle.notation.specs.Characters.{kind, plain, escapable}
+use Rattle.notation.specs.Automaton.{Frame, Mode, escape, in_class, in_count, fresh, awaiting, least, state, dead, alive, push, begin, repeat_or, step, outcome_of}
+use Rattle.notation.specs.Refusals.{Stops, refused}
 use Rattle.pattern.specs.Signs.{Waits, SignStops}
 use Rattle.pattern.specs.Classes.{ClassRead, ClassStops}
 use Rattle.pattern.specs.Repeats.{CountsRead, CountsStop}
-use Rattle.pattern.proofs.Runs.{is_repeat, settled}
+use Rattle.notation.proofs.Runs.{is_repeat, settled}
+use Rattle.pattern.proofs.Waiting.{before_atom, after_atom, waiting}
 use Rattle.pattern.proofs.Slices.{drop_is, moves, stops_inside, stops_at, stopped, split_at, slice_part, slice_is, part_length}
 
 -- a byte that is none of the twelve special characters
@@ -41,52 +42,36 @@ module _ (p : List ℕ) (at : ℕ) (lt : at < length p) where
 
   -- the byte begins a sign that is not a repeat, and the sign stops
   pub begun : (repeatable : Bool) (f : Fault) (b : ℕ) (next : Mode) → get_or p at 0 ≡ b → is_repeat (kind b) ≡ false → ((fr : Frame) (d : ℕ) (ctx : List Frame) → begin (kind b) b fr d ctx ≡ alive (state next fr d ctx))
-      → ((fr : Frame) (d : ℕ) (ctx : List Frame) → Stops p f (verdict (state next fr d ctx) (drop (at + 1) p))) → SignStops p at repeatable f
-  begun false f b next is no_repeat leads stop ready waits fr d ctx = subst (Stops p f) (sym (moves p at b _ (state next fr d ctx) lt is (leads fr d ctx))) (stop fr d ctx)
-  begun false f b next is no_repeat leads stop (after e) waits fr d ctx = absurd waits
-  begun false f b next is no_repeat leads stop escape waits fr d ctx = absurd waits
-  begun false f b next is no_repeat leads stop (in_class rs c) waits fr d ctx = absurd waits
-  begun false f b next is no_repeat leads stop (in_count e c) waits fr d ctx = absurd waits
-  begun true f b next is no_repeat leads stop ready waits fr d ctx = absurd waits
-  begun true f b next is no_repeat leads stop (after e) waits fr d ctx =
-      subst (Stops p f) (sym (moves p at b _ (state next (push e fr) d ctx) lt is (settled (kind b) b e fr d ctx no_repeat ∙ leads (push e fr) d ctx))) (stop (push e fr) d ctx)
-  begun true f b next is no_repeat leads stop escape waits fr d ctx = absurd waits
-  begun true f b next is no_repeat leads stop (in_class rs c) waits fr d ctx = absurd waits
-  begun true f b next is no_repeat leads stop (in_count e c) waits fr d ctx = absurd waits
+      → ((fr : Frame) (d : ℕ) (ctx : List Frame) → Stops p f (outcome_of (state next fr d ctx) (drop (at + 1) p))) → SignStops p at repeatable f
+  begun repeatable f b next is no_repeat leads stop =
+      waiting (λ m. (fr : Frame) (d : ℕ) (ctx : List Frame) → Stops p f (outcome_of (state m fr d ctx) (drop at p)))
+      (λ fr d ctx. subst (Stops p f) (sym (moves p at b _ (state next fr d ctx) lt is (leads fr d ctx))) (stop fr d ctx))
+      (λ e fr d ctx. subst (Stops p f) (sym (moves p at b _ (state next (push e fr) d ctx) lt is (settled (kind b) b e fr d ctx no_repeat ∙ leads (push e fr) d ctx))) (stop (push e fr) d ctx))
+      repeatable
 
   pub class_stops : (repeatable : Bool) (f : Fault) → get_or p at 0 ≡ 91 → ClassStops p (at + 1) f → SignStops p at repeatable f
   class_stops repeatable f is stop = begun repeatable f 91 (in_class [] fresh) is refl (λ fr d ctx. refl) stop
 
   pub count_stops : (f : Fault) → get_or p at 0 ≡ 123 → CountsStop p (at + 1) f → SignStops p at true f
-  count_stops f is stop ready waits fr d ctx = absurd waits
-  count_stops f is stop (after e) waits fr d ctx = subst (Stops p f) (sym (moves p at 123 _ (state (in_count e (awaiting least)) fr d ctx) lt is refl)) (stop e fr d ctx)
-  count_stops f is stop escape waits fr d ctx = absurd waits
-  count_stops f is stop (in_class rs c) waits fr d ctx = absurd waits
-  count_stops f is stop (in_count e c) waits fr d ctx = absurd waits
+  count_stops f is stop =
+      after_atom (λ m. (fr : Frame) (d : ℕ) (ctx : List Frame) → Stops p f (outcome_of (state m fr d ctx) (drop at p)))
+      (λ e fr d ctx. subst (Stops p f) (sym (moves p at 123 _ (state (in_count e (awaiting least)) fr d ctx) lt is refl)) (stop e fr d ctx))
 
   -- a repeat with nothing to repeat
   pub nothing_to_repeat : (f : Fault) (b : ℕ) → get_or p at 0 ≡ b → ((fr : Frame) (d : ℕ) (ctx : List Frame) → begin (kind b) b fr d ctx ≡ dead) → f ≡ refused BadlyWritten at → SignStops p at false f
-  nothing_to_repeat f b byte dead_end is ready waits fr d ctx = stopped p f at _ is (omega arith) (stops_inside p at _ lt (ap (λ x. begin (kind x) x fr d ctx) byte ∙ dead_end fr d ctx))
-  nothing_to_repeat f b byte dead_end is (after e) waits fr d ctx = absurd waits
-  nothing_to_repeat f b byte dead_end is escape waits fr d ctx = absurd waits
-  nothing_to_repeat f b byte dead_end is (in_class rs c) waits fr d ctx = absurd waits
-  nothing_to_repeat f b byte dead_end is (in_count e c) waits fr d ctx = absurd waits
+  nothing_to_repeat f b byte dead_end is =
+      before_atom (λ m. (fr : Frame) (d : ℕ) (ctx : List Frame) → Stops p f (outcome_of (state m fr d ctx) (drop at p)))
+      (λ fr d ctx. stopped p f at _ is (omega arith) (stops_inside p at _ lt (ap (λ x. begin (kind x) x fr d ctx) byte ∙ dead_end fr d ctx)))
 
   -- a byte that never stands outside a class by itself
   pub never_here : (repeatable : Bool) (f : Fault) (b : ℕ) → get_or p at 0 ≡ b → is_repeat (kind b) ≡ false → ((fr : Frame) (d : ℕ) (ctx : List Frame) → begin (kind b) b fr d ctx ≡ dead) → f ≡ refused BadlyWritten at → SignStops p at repeatable f
-  never_here repeatable f b is no_repeat dead_end fault = dies repeatable f (dead_in repeatable) fault
-    where
-      dead_in : (r : Bool) (m : Mode) → Waits r m → (fr : Frame) (d : ℕ) (ctx : List Frame) → step m (get_or p at 0) fr d ctx ≡ dead
-      dead_in false ready waits fr d ctx = ap (λ x. begin (kind x) x fr d ctx) is ∙ dead_end fr d ctx
-      dead_in false (after e) waits fr d ctx = absurd waits
-      dead_in false escape waits fr d ctx = absurd waits
-      dead_in false (in_class rs c) waits fr d ctx = absurd waits
-      dead_in false (in_count e c) waits fr d ctx = absurd waits
-      dead_in true ready waits fr d ctx = absurd waits
-      dead_in true (after e) waits fr d ctx = ap (λ x. repeat_or (kind x) x e fr d ctx) is ∙ settled (kind b) b e fr d ctx no_repeat ∙ dead_end (push e fr) d ctx
-      dead_in true escape waits fr d ctx = absurd waits
-      dead_in true (in_class rs c) waits fr d ctx = absurd waits
-      dead_in true (in_count e c) waits fr d ctx = absurd waits
+  never_here repeatable f b is no_repeat dead_end fault =
+      dies repeatable f
+      (waiting (λ m. (fr : Frame) (d : ℕ) (ctx : List Frame) → step m (get_or p at 0) fr d ctx ≡ dead)
+      (λ fr d ctx. ap (λ x. begin (kind x) x fr d ctx) is ∙ dead_end fr d ctx)
+      (λ e fr d ctx. ap (λ x. repeat_or (kind x) x e fr d ctx) is ∙ settled (kind b) b e fr d ctx no_repeat ∙ dead_end (push e fr) d ctx)
+      repeatable)
+      fault
 
   pub escape_stops : (repeatable : Bool) (f : Fault) → get_or p at 0 ≡ 92 → (at + 1 < length p → escapable (get_or p (at + 1) 0) ≡ false) → f ≡ refused BadlyWritten (at + 1) → SignStops p at repeatable f
   escape_stops repeatable f is cannot fault =

@@ -4,9 +4,9 @@ use Rattle.std.proofs.lemmas.List.{drop_more, drop_all, drop-drop, get_or-drop, 
 use Rattle.std.proofs.lemmas.Bool.{cases_lt}
 use Rattle.fault.specs.declared.Fault.{Fault}
 use Rattle.fault.specs.declared.Refusal.TheVariants.{BadlyWritten}
-use Rattle.pattern.specs.Refusals.{Stops, refused}
-use Rattle.pattern.specs.Automaton.{State, Outcome, bad, dead, alive, step_of, finish, verdict}
-use Rattle.pattern.proofs.Runs.{verdict_alive, verdict_dead, verdict_end}
+use Rattle.notation.specs.Refusals.{Stops, refused}
+use Rattle.notation.specs.Automaton.{State, Outcome, bad, dead, alive, step_of, finish, outcome_of}
+use Rattle.notation.proofs.Runs.{outcome_alive, outcome_dead, outcome_end}
 
 module _ (p : List ℕ) where
   pub drop_is : (at b : ℕ) → at < length p → get_or p at 0 ≡ b → drop at p ≡ b ∷ drop (at + 1) p
@@ -16,21 +16,21 @@ module _ (p : List ℕ) where
   pub head_is : (at b : ℕ) (w : List ℕ) → drop at p ≡ b ∷ w → get_or p at 0 ≡ b
   head_is at b w is = ap (λ n. get_or p n 0) (sym (add-zero at)) ∙ sym (get_or-drop at p 0 0) ∙ ap (λ l. get_or l 0 0) is
 
-  pub moves : (at b : ℕ) (s t : State) → at < length p → get_or p at 0 ≡ b → step_of s b ≡ alive t → verdict s (drop at p) ≡ verdict t (drop (at + 1) p)
-  moves at b s t lt is goes = ap (verdict s) (drop_is at b lt is) ∙ verdict_alive s t b _ goes
+  pub moves : (at b : ℕ) (s t : State) → at < length p → get_or p at 0 ≡ b → step_of s b ≡ alive t → outcome_of s (drop at p) ≡ outcome_of t (drop (at + 1) p)
+  moves at b s t lt is goes = ap (outcome_of s) (drop_is at b lt is) ∙ outcome_alive s t b _ goes
 
-  pub stops_inside : (at : ℕ) (s : State) → at < length p → step_of s (get_or p at 0) ≡ dead → verdict s (drop at p) ≡ bad (length p - at)
+  pub stops_inside : (at : ℕ) (s : State) → at < length p → step_of s (get_or p at 0) ≡ dead → outcome_of s (drop at p) ≡ bad (length p - at)
   stops_inside at s lt dies =
       let left : suc (length (drop (at + 1) p)) ≡ length p - at = simp length-drop (omega arith) in
-      ap (verdict s) (drop_more p at 0 lt) ∙ verdict_dead s _ _ dies ∙ ap bad left
+      ap (outcome_of s) (drop_more p at 0 lt) ∙ outcome_dead s _ _ dies ∙ ap bad left
 
-  pub stops_at : (at : ℕ) (s : State) → at ≤ length p → finish s ≡ bad 0 → (at < length p → step_of s (get_or p at 0) ≡ dead) → verdict s (drop at p) ≡ bad (length p - at)
+  pub stops_at : (at : ℕ) (s : State) → at ≤ length p → finish s ≡ bad 0 → (at < length p → step_of s (get_or p at 0) ≡ dead) → outcome_of s (drop at p) ≡ bad (length p - at)
   stops_at at s le end dies =
       ⊎_elim
       (λ (lt : at < length p). stops_inside at s lt (dies lt))
       (λ (ge : length p ≤ at).
       let none : 0 ≡ length p - at = omega arith in
-      ap (verdict s) (drop_all at p ge) ∙ verdict_end s ∙ end ∙ ap bad none)
+      ap (outcome_of s) (drop_all at p ge) ∙ outcome_end s ∙ end ∙ ap bad none)
       (cases_lt at (length p))
 
   -- what a reader answers that stops at `at`

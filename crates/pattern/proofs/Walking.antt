@@ -3,32 +3,26 @@ use Rattle.std.proofs.Common.{◌≡◌, ℕ, ◌+◌, ◌-◌, ◌<◌, ◌≤�
 use Rattle.std.proofs.lemmas.List.{drop_all, drop_more}
 use Rattle.std.proofs.lemmas.Bool.{cases_lt, leb-false}
 use Rattle.fault.specs.declared.Fault.{Fault}
-use Rattle.pattern.specs.Expressions.{Regex, empty}
-use Rattle.pattern.specs.Grammar.{Repeated}
-use Rattle.pattern.specs.Automaton.{Frame, frame, later, Mode, ready, after, escape, in_class, in_count, state, push, opened, closed, verdict}
+use Rattle.notation.specs.Expressions.{Regex, empty}
+use Rattle.notation.specs.Grammar.{Repeated}
+use Rattle.notation.specs.Automaton.{Frame, frame, later, Mode, ready, after, state, push, opened, closed, outcome_of}
 use Rattle.pattern.specs.Drafts.{settled, AtomKept, BarKept, RepeatKept, ClosedKept}
-use Rattle.pattern.specs.Refusals.{Stops}
+use Rattle.notation.specs.Refusals.{Stops}
 use Rattle.pattern.specs.Signs.{SignStops, Waits}
 use Rattle.pattern.specs.Walks.{Halts, Leads, StepStops, GroupStops, AlternativesRead, AlternativesStop}
-use Rattle.pattern.proofs.Runs.{NoRepeat, settles, verdict_alive}
-use Rattle.pattern.proofs.Completes.{repeat_runs}
+use Rattle.notation.proofs.Runs.{NoRepeat, settles, outcome_alive}
+use Rattle.pattern.proofs.Waiting.{after_atom, waiting}
+use Rattle.notation.proofs.Completes.{repeat_runs}
 
 -- the atom in hand joins its branch
-settle_runs : (r : Bool) (m : Mode) → Waits r m → (fr : Frame) (d : ℕ) (ctx : List Frame) (w : List ℕ) → NoRepeat w → verdict (state m fr d ctx) w ≡ verdict (state ready (settled m fr) d ctx) w
-settle_runs false ready is fr d ctx w free = refl
-settle_runs false (after f) is fr d ctx w free = absurd is
-settle_runs false escape is fr d ctx w free = absurd is
-settle_runs false (in_class rs s) is fr d ctx w free = absurd is
-settle_runs false (in_count f s) is fr d ctx w free = absurd is
-settle_runs true ready is fr d ctx w free = absurd is
-settle_runs true (after f) is fr d ctx w free = settles f fr d ctx w free
-settle_runs true escape is fr d ctx w free = absurd is
-settle_runs true (in_class rs s) is fr d ctx w free = absurd is
-settle_runs true (in_count f s) is fr d ctx w free = absurd is
+settle_runs : (r : Bool) (m : Mode) → Waits r m → (fr : Frame) (d : ℕ) (ctx : List Frame) (w : List ℕ) → NoRepeat w → outcome_of (state m fr d ctx) w ≡ outcome_of (state ready (settled m fr) d ctx) w
+settle_runs =
+    waiting (λ m. (fr : Frame) (d : ℕ) (ctx : List Frame) (w : List ℕ) → NoRepeat w → outcome_of (state m fr d ctx) w ≡ outcome_of (state ready (settled m fr) d ctx) w)
+    (λ fr d ctx w free. refl) (λ f fr d ctx w free. settles f fr d ctx w free)
 
 module _ (p : List ℕ) (at : ℕ) where
-  pub part_within : (u : List ℕ) → at < length p → drop at p ≡ u ++ drop (at + length u) p → at + length u ≤ length p
-  part_within u lt is =
+  pub part_within : (u : List ℕ) → 0 < length u → drop at p ≡ u ++ drop (at + length u) p → at + length u ≤ length p
+  part_within u some is =
       let long : length p - at ≡ length u + (length p - (at + length u)) = sym (length-drop at p) ∙ ap length is ∙ length-append u _ ∙ ap (λ n. length u + n) (length-drop (at + length u) p) in
       omega arith
 
@@ -51,7 +45,7 @@ module _ (p : List ℕ) (at : ℕ) where
     module _ (end : ℕ) (K' : Mode → Frame → Type 0) where
       -- an atom, from whatever came before it
       pub atom_leads : (e : Regex) → NoRepeat (drop at p)
-          → ((fr : Frame) (ctx : List Frame) → verdict (state ready fr d ctx) (drop at p) ≡ verdict (state (after e) fr d ctx) (drop end p))
+          → ((fr : Frame) (ctx : List Frame) → outcome_of (state ready fr d ctx) (drop at p) ≡ outcome_of (state (after e) fr d ctx) (drop end p))
           → AtomKept K K' e → (m : Mode) (fr : Frame) → K m fr → Leads p at d end m fr K'
       atom_leads e free runs told m fr keeps = record {
         mode = after e;
@@ -65,22 +59,22 @@ module _ (p : List ℕ) (at : ℕ) where
         mode = ready;
         frame = frame (later (closed (settled m fr))) empty;
         keeps = told m fr keeps;
-        runs = λ ctx. settle_runs r m (waits m fr keeps) fr d ctx _ (subst NoRepeat (sym is) refl) ∙ ap (verdict _) is ∙ verdict_alive _ _ 124 _ refl;
+        runs = λ ctx. settle_runs r m (waits m fr keeps) fr d ctx _ (subst NoRepeat (sym is) refl) ∙ ap (outcome_of _) is ∙ outcome_alive _ _ 124 _ refl;
       }
 
       -- a repeat of the atom in hand
       pub repeat_leads : (u : List ℕ) (g : Regex → Regex) → ((e : Regex) → Repeated u e (g e)) → r ≡ true → drop at p ≡ u ++ drop end p
           → RepeatKept K K' g → (m : Mode) (fr : Frame) → K m fr → Leads p at d end m fr K'
-      repeat_leads u g written again is told ready fr keeps = absurd (subst (λ b. Waits b ready) again (waits ready fr keeps))
-      repeat_leads u g written again is told (after f) fr keeps = record {
-        mode = ready;
-        frame = push (g f) fr;
-        keeps = told f fr keeps;
-        runs = λ ctx. ap (verdict _) is ∙ repeat_runs (written f) fr d ctx (drop end p);
-      }
-      repeat_leads u g written again is told escape fr keeps = absurd (subst (λ b. Waits b escape) again (waits escape fr keeps))
-      repeat_leads u g written again is told (in_class rs s) fr keeps = absurd (subst (λ b. Waits b (in_class rs s)) again (waits (in_class rs s) fr keeps))
-      repeat_leads u g written again is told (in_count f s) fr keeps = absurd (subst (λ b. Waits b (in_count f s)) again (waits (in_count f s) fr keeps))
+      repeat_leads u g written again is told m fr keeps =
+          after_atom (λ m. K m fr → Leads p at d end m fr K')
+          (λ f kept.
+          record {
+            mode = ready;
+            frame = push (g f) fr;
+            keeps = told f fr kept;
+            runs = λ ctx. ap (outcome_of _) is ∙ repeat_runs (written f) fr d ctx (drop end p);
+          })
+          m (subst (λ b. Waits b m) again (waits m fr keeps)) keeps
 
 module _ (p : List ℕ) (from d at : ℕ) (K : Mode → Frame → Type 0) where
   pub walk_stops : (f : Fault) → Leads p from d at ready opened K → StepStops p at d K f → AlternativesStop p from d f

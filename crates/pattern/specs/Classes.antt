@@ -1,19 +1,20 @@
 -- What is read of a class, from after its bracket. Only private functions cite it. Assumes nothing.
 --
 --   Follows old b t new   what the class reader answers to the byte b, None where b cannot stand, and the state that it is left in
+--   with_last rs f        the finished members rs, with the one that a byte finishes where there is one
 --   ClassRead p at end    the inside of the class is p from `at` to `end`, where its bracket stands
 --   ClassStops            the fault has the place where the automaton stops
-use Rattle.std.specs.Prelude.{◌≡◌, ℕ, ◌+◌, ◌<◌, ◌≤◌, cond, Option, None, Some, List, [], ◌∷◌, length, take, drop, ◌==◌, ◌≢◌, slice_index, slice_index_or, slice_range}
+use Rattle.std.specs.Prelude.{◌≡◌, ℕ, ◌+◌, ◌<◌, ◌≤◌, Option, None, Some, List, [], ◌∷◌, ◌++◌, length, take, drop, ◌≢◌, slice_index, slice_index_or, slice_range}
 use Rattle.fault.specs.declared.Fault.{Fault}
 use Rattle.pattern.specs.declared.class.Progress.{Progress}
 use Rattle.pattern.specs.declared.class.Progress.TheVariants.{Empty, Between, Member, Dash, Escape, DashEscape}
 use Rattle.pattern.specs.declared.class.Taken.{Taken}
 use Rattle.pattern.specs.declared.class.Taken.TheVariants.{Inside, Ended}
-use Rattle.pattern.specs.Characters.{class_kind}
-use Rattle.pattern.specs.Expressions.{Range}
-use Rattle.pattern.specs.Grammar.{Members}
-use Rattle.pattern.specs.Automaton.{Frame, state, in_class, ClassState, fresh, in_escape, member, dashed, dashed_escape, ClassNext, no_class, inside, finished, class_next, verdict}
-use Rattle.pattern.specs.Refusals.{Stops}
+use Rattle.notation.specs.Characters.{class_kind}
+use Rattle.notation.specs.Expressions.{Range}
+use Rattle.notation.specs.Grammar.{Members}
+use Rattle.notation.specs.Automaton.{Frame, state, in_class, ClassState, fresh, in_escape, member, dashed, dashed_escape, ClassNext, no_class, inside, finished, class_next, outcome_of}
+use Rattle.notation.specs.Refusals.{Stops}
 
 abbrev pub state_of : Progress → ClassState
 state_of Empty = fresh
@@ -32,22 +33,23 @@ Suits rs (Dash a) = Unit {0}
 Suits rs Escape = Unit {0}
 Suits rs (DashEscape a) = Unit {0}
 
-abbrev pub Leads : Option Taken → ClassNext → Progress → Type 0
-Leads (Some Inside) n new = (rs : List Range) × (n ≡ inside rs (state_of new)) × Suits rs new
-Leads (Some Ended) n new = (rs : List Range) × (n ≡ finished rs)
-Leads None n new = n ≡ no_class
+abbrev pub with_last : List Range → Option Range → List Range
+with_last rs None = rs
+with_last rs (Some r) = rs ++ r ∷ []
+
+-- the member that a byte finishes
+abbrev pub completed : Option Taken → Option Range
+completed None = None
+completed (Some (Inside f)) = f
+completed (Some (Ended f)) = f
+
+abbrev pub Leads : List Range → Option Taken → ClassNext → Progress → Type 0
+Leads rs (Some (Inside f)) n new = (n ≡ inside (with_last rs f) (state_of new)) × Suits (with_last rs f) new
+Leads rs (Some (Ended f)) n new = n ≡ finished (with_last rs f)
+Leads rs None n new = n ≡ no_class
 
 abbrev pub Follows : Progress → ℕ → Option Taken → Progress → Type 0
-Follows old b t new = (rs : List Range) → Suits rs old → Leads t (class_next (class_kind b) b rs (state_of old)) new
-
--- the members that are finished once the byte b has been taken
-abbrev pub done_by : Progress → ℕ → List Range
-done_by Empty b = []
-done_by Between b = []
-done_by (Member a) b = cond (b == 45) [] ((a, a) ∷ [])
-done_by (Dash a) b = cond (b == 92) [] ((a, b) ∷ [])
-done_by Escape b = []
-done_by (DashEscape a) b = (a, b) ∷ []
+Follows old b t new = (rs : List Range) → Suits rs old → Leads rs t (class_next (class_kind b) b rs (state_of old)) new
 
 pub record ClassRead (p : List ℕ) (at end : ℕ) : Type 0 where
   pub forward : at ≤ end
@@ -58,7 +60,7 @@ pub record ClassRead (p : List ℕ) (at end : ℕ) : Type 0 where
   pub written : Members (slice_range p at end) members
 
 abbrev pub ClassStops : List ℕ → ℕ → Fault → Type 0
-ClassStops p at f = (fr : Frame) (d : ℕ) (ctx : List Frame) → Stops p f (verdict (state (in_class [] fresh) fr d ctx) (drop at p))
+ClassStops p at f = (fr : Frame) (d : ℕ) (ctx : List Frame) → Stops p f (outcome_of (state (in_class [] fresh) fr d ctx) (drop at p))
 
 -- no class stands from `at` on, and the fault has its place
 pub record ClassRefused (p : List ℕ) (at : ℕ) (f : Fault) : Type 0 where

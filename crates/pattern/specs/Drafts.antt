@@ -2,12 +2,14 @@
 --
 --   Keeps S c m fr   c stands for an open pattern, and for the atom that can still be repeated, where S says what a part stands for
 --   settled m fr     the open pattern once that atom has joined its branch
+--   Grows K K' r t   K' is kept once the sign of the text t has been read too
 --   .. Kept          what an atom, a bar, a repeat and the end make of what was kept
-use Rattle.std.specs.Prelude.{IsNone}
+use Rattle.std.specs.Prelude.{◌≡◌, ℕ, Bool, true, List, [], ◌∷◌, IsNone}
 use Rattle.std.specs.Option.{IsSomeAnd}
 use Rattle.pattern.specs.declared.draft.Draft.{Draft}
-use Rattle.pattern.specs.Expressions.{Regex, empty}
-use Rattle.pattern.specs.Automaton.{first, later, Mode, ready, after, escape, in_class, in_count, Frame, frame, push, closed}
+use Rattle.notation.specs.Expressions.{Regex, empty}
+use Rattle.notation.specs.Grammar.{Atom, Repeated}
+use Rattle.notation.specs.Automaton.{first, later, Mode, ready, after, escape, in_class, in_count, Frame, frame, push, closed}
 
 abbrev pub Opens : {T : Type 0} → (T → Regex → Type 0) → Draft T → Frame → Type 0
 Opens S c (frame first e) = IsNone c.earlier × S c.branch e
@@ -48,3 +50,9 @@ Repeats {T} S R g = (x y : T) (f : Regex) → R x y → S x f → S y (g f)
 
 abbrev pub RepeatKept : (Mode → Frame → Type 0) → (Mode → Frame → Type 0) → (Regex → Regex) → Type 0
 RepeatKept K K' g = (f : Regex) (fr : Frame) → K (after f) fr → K' ready (push (g f) fr)
+
+-- what the sign of the text t makes of what was kept, where r says whether a repeat may stand
+pub data Grows (K K' : Mode → Frame → Type 0) (r : Bool) (t : List ℕ) : Type 0 where
+  by_atom : (e : Regex) → Atom (λ _ _. ⊥) t e → AtomKept K K' e → Grows K K' r t
+  by_bar : t ≡ 124 ∷ [] → BarKept K K' → Grows K K' r t
+  by_repeat : r ≡ true → (g : Regex → Regex) → ((e : Regex) → Repeated t e (g e)) → RepeatKept K K' g → Grows K K' r t

@@ -1,16 +1,6 @@
-pub mod Expressions
-pub mod Places
-pub mod Meaning
-pub mod Characters
-pub mod Grammar
-pub mod Beginnings
-pub mod Automaton
-pub mod Refusals
 pub mod Cursors
 pub mod Repeats
 pub mod Signs
 pub mod Drafts
-pub mod Reading
 pub mod Classes
 pub mod Walks
-pub mod Examples

@@ -8,10 +8,10 @@
 use Rattle.std.specs.Prelude.{◌≡◌, ℕ, ◌+◌, ◌<◌, ◌≤◌, false, List, ◌∷◌, ◌++◌, length, take, drop, decimal, slice_index}
 use Rattle.fault.specs.declared.Fault.{Fault}
 use Rattle.fault.specs.declared.Refusal.TheVariants.{BadlyWritten}
-use Rattle.pattern.specs.Expressions.{Regex}
-use Rattle.pattern.specs.Grammar.{Counts}
-use Rattle.pattern.specs.Automaton.{Frame, state, in_count, awaiting, digits, Stage, least, bound, count_can_go_on, count_kind, digit, verdict}
-use Rattle.pattern.specs.Refusals.{Stops, refused}
+use Rattle.notation.specs.Expressions.{Regex}
+use Rattle.notation.specs.Grammar.{Counts}
+use Rattle.notation.specs.Automaton.{Frame, state, in_count, awaiting, digits, Stage, least, bound, count_can_go_on, count_kind, digit, outcome_of}
+use Rattle.notation.specs.Refusals.{Stops, refused}
 
 pub record NumberRead (p : List ℕ) (at low n end : ℕ) : Type 0 where
   pub within : end ≤ length p
@@ -20,10 +20,10 @@ pub record NumberRead (p : List ℕ) (at low n end : ℕ) : Type 0 where
   pub small : n ≤ 32
   pub stuck : (k : ℕ) → count_kind (slice_index p end) ≡ digit k → end < length p → count_can_go_on low n k ≡ false
   pub runs : (s : Stage) → bound s ≡ low → (e : Regex) (fr : Frame) (d : ℕ) (ctx : List Frame)
-      → verdict (state (in_count e (awaiting s)) fr d ctx) (drop at p) ≡ verdict (state (in_count e (digits s n)) fr d ctx) (drop end p)
+      → outcome_of (state (in_count e (awaiting s)) fr d ctx) (drop at p) ≡ outcome_of (state (in_count e (digits s n)) fr d ctx) (drop end p)
 
 abbrev pub NumberStops : List ℕ → ℕ → ℕ → Fault → Type 0
-NumberStops p at low f = (s : Stage) → bound s ≡ low → (e : Regex) (fr : Frame) (d : ℕ) (ctx : List Frame) → Stops p f (verdict (state (in_count e (awaiting s)) fr d ctx) (drop at p))
+NumberStops p at low f = (s : Stage) → bound s ≡ low → (e : Regex) (fr : Frame) (d : ℕ) (ctx : List Frame) → Stops p f (outcome_of (state (in_count e (awaiting s)) fr d ctx) (drop at p))
 
 abbrev pub Braced : List ℕ → ℕ → ℕ → Type 0
 Braced t m n = (w : List ℕ) × (t ≡ 123 ∷ w) × Counts w m n
@@ -36,7 +36,7 @@ pub record CountsRead (p : List ℕ) (at m n end : ℕ) : Type 0 where
   pub part : drop at p ≡ words ++ drop end p
 
 abbrev pub CountsStop : List ℕ → ℕ → Fault → Type 0
-CountsStop p at f = (e : Regex) (fr : Frame) (d : ℕ) (ctx : List Frame) → Stops p f (verdict (state (in_count e (awaiting least)) fr d ctx) (drop at p))
+CountsStop p at f = (e : Regex) (fr : Frame) (d : ℕ) (ctx : List Frame) → Stops p f (outcome_of (state (in_count e (awaiting least)) fr d ctx) (drop at p))
 
 pub record NumberRefused (p : List ℕ) (at low : ℕ) (f : Fault) : Type 0 where
   pub is : f ≡ refused BadlyWritten at

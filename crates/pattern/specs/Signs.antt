@@ -7,11 +7,11 @@ use Rattle.std.specs.Prelude.{◌≡◌, ℕ, ◌+◌, ◌<◌, Bool, true, fals
 use Rattle.fault.specs.declared.Fault.{Fault}
 use Rattle.pattern.specs.declared.sign.Sign.{Sign}
 use Rattle.pattern.specs.declared.sign.Sign.TheVariants.{Plain, Escape, Any, Class, Bar, Star, Plus, Question, Counted, Open, Close, End}
-use Rattle.pattern.specs.Characters.{kind, plain, escapable}
-use Rattle.pattern.specs.Expressions.{Range, Regex}
-use Rattle.pattern.specs.Grammar.{Members, Atom, Repeated}
-use Rattle.pattern.specs.Automaton.{Frame, Mode, ready, after, escape, in_class, in_count, state, verdict}
-use Rattle.pattern.specs.Refusals.{Stops}
+use Rattle.notation.specs.Characters.{kind, plain, escapable}
+use Rattle.notation.specs.Expressions.{Range, Regex}
+use Rattle.notation.specs.Grammar.{Members, Atom, Repeated}
+use Rattle.notation.specs.Automaton.{Frame, Mode, ready, after, state, outcome_of}
+use Rattle.notation.specs.Refusals.{Stops}
 use Rattle.pattern.specs.Repeats.{Braced}
 
 -- a class is handed out as what stands between its brackets
@@ -65,21 +65,28 @@ is_end (Open t) = false
 is_end (Close t) = false
 is_end End = true
 
+-- part of a branch or between two of them, and so neither a parenthesis nor the end
+abbrev pub is_inner : Sign → Bool
+is_inner (Plain t) = true
+is_inner (Escape t) = true
+is_inner (Any t) = true
+is_inner (Class t) = true
+is_inner (Bar t) = true
+is_inner (Star t) = true
+is_inner (Plus t) = true
+is_inner (Question t) = true
+is_inner (Counted t) = true
+is_inner (Open t) = false
+is_inner (Close t) = false
+is_inner End = false
+
 -- in whichever mode the automaton waits for a sign, the fault has the place where it stops
 abbrev pub Waits : Bool → Mode → Type 0
-Waits false ready = Unit {0}
-Waits false (after f) = ⊥
-Waits false escape = ⊥
-Waits false (in_class rs c) = ⊥
-Waits false (in_count f c) = ⊥
-Waits true ready = ⊥
-Waits true (after f) = Unit {0}
-Waits true escape = ⊥
-Waits true (in_class rs c) = ⊥
-Waits true (in_count f c) = ⊥
+Waits false m = m ≡ ready
+Waits true m = (f : Regex) × (m ≡ after f)
 
 abbrev pub SignStops : List ℕ → ℕ → Bool → Fault → Type 0
-SignStops p at repeatable f = (m : Mode) → Waits repeatable m → (fr : Frame) (d : ℕ) (ctx : List Frame) → Stops p f (verdict (state m fr d ctx) (drop at p))
+SignStops p at repeatable f = (m : Mode) → Waits repeatable m → (fr : Frame) (d : ℕ) (ctx : List Frame) → Stops p f (outcome_of (state m fr d ctx) (drop at p))
 
 -- no sign stands at `at`, and the fault has its place
 pub record SignRefused (p : List ℕ) (at : ℕ) (repeatable : Bool) (f : Fault) : Type 0 where

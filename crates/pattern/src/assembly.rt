@@ -1,8 +1,8 @@
 // What a pattern is put together as while it is read: the reader asks for each part, in the field's
 // words for the operations of an algebra of expressions.
 ghost use Rattle.std.specs.Prelude.{ℕ, ◌<◌, ◌≤◌, List, length};
-ghost use Rattle.pattern.specs.Expressions.{Range, Regex, byte as byte_of, any as any_of, one, empty, seq, alt, star as star_of, plus as plus_of, opt, counted as counted_of};
-ghost use Rattle.pattern.specs.Grammar.{Members};
+ghost use Rattle.notation.specs.Expressions.{Range, Regex, byte as byte_of, any as any_of, one, empty, seq, alt, star as star_of, plus as plus_of, opt, counted as counted_of};
+ghost use Rattle.notation.specs.Grammar.{Members};
 
 use crate::gathering::Gathering;
 

@@ -1,11 +1,11 @@
 // The class, from after its bracket: its state and the next byte together decide.
-ghost use Rattle.std.specs.Prelude.{◌≡◌, ◌<◌, List, ◌++◌, length, IfOk, MatchResult};
+ghost use Rattle.std.specs.Prelude.{◌≡◌, ◌<◌, List, length, IfOk, MatchResult};
 ghost use Rattle.pattern.specs.Cursors.{OnePattern};
-ghost use Rattle.pattern.specs.Characters.{escapable, class_kind, kind_is_itself};
-ghost use Rattle.pattern.specs.Expressions.{Range};
-ghost use Rattle.pattern.specs.Grammar.{Members};
-ghost use Rattle.pattern.specs.Classes.{Follows, done_by, ClassRead, ClassRefused};
+ghost use Rattle.notation.specs.Expressions.{Range};
+ghost use Rattle.notation.specs.Grammar.{Members};
+ghost use Rattle.pattern.specs.Classes.{Follows, completed, with_last, ClassRead, ClassRefused};
 
+use crate::character::{is_escapable, is_itself};
 use crate::cursor::Cursor;
 use crate::gathering::Gathering;
 use fault::Fault;
@@ -21,51 +21,21 @@ pub enum Progress {
     DashEscape(u8),
 }
 
-// What a byte does that can stand where it is: the class goes on, or ends.
+// What a byte does that can stand where it is: the class goes on, or ends. Either can finish a
+// member, of which the first and the last byte are told.
 #[derive(Clone, Copy)]
 pub enum Taken {
-    Inside,
-    Ended,
-}
-
-pub(crate) fn is_escapable(byte: u8) -> bool
-    ensures value { result ≡ escapable byte }
-{
-    matches!(
-        byte as char,
-        '|' | '*' | '+' | '?' | '(' | ')' | '[' | ']' | '{' | '}' | '.' | '\\' | '-' | '^'
-    )
-}
-
-// Inside a class five bytes do something; every other one stands for itself. Both tests match their
-// characters as literals, so neither takes the set as an argument.
-fn is_itself(byte: u8) -> bool
-    ensures value { result ≡ kind_is_itself (class_kind byte) }
-{
-    !matches!(byte as char, '[' | ']' | '\\' | '-' | '^')
+    Inside(Option<(u8, u8)>),
+    Ended(Option<(u8, u8)>),
 }
 
 impl Progress {
-    fn go(&mut self, next: Progress) -> Option<Taken>
-        ensures value { result ≡ Some Taken.Inside }
+    fn go(&mut self, next: Progress, member: Option<(u8, u8)>) -> Option<Taken>
+        ensures value { result ≡ Some (Taken.Inside member) }
         ensures left { self.new ≡ next }
     {
         *self = next;
-        Some(Taken::Inside)
-    }
-
-    // The members that are finished once `byte` has been taken.
-    fn finished<T: Gathering>(self, found: &T, byte: u8) -> T
-        ensures value { (rs : List Range) → T.Gathering.holds found.now rs → T.Gathering.holds result (rs ++ done_by self byte) }
-    {
-        match (self, byte as char) {
-            (Progress::Member(_), '-') => *found,
-            (Progress::Member(first), _) => found.with(first, first),
-            (Progress::Dash(_), '\\') => *found,
-            (Progress::Dash(first), _) => found.with(first, byte),
-            (Progress::DashEscape(first), _) => found.with(first, byte),
-            (Progress::Empty | Progress::Between | Progress::Escape, _) => *found,
-        }
+        Some(Taken::Inside(member))
     }
 
     // `None` where the byte cannot stand here.
@@ -73,22 +43,30 @@ impl Progress {
         ensures cases { Follows self.old byte result self.new }
     {
         match (*self, byte as char) {
-            (Progress::Empty, '\\') => self.go(Progress::Escape),
-            (Progress::Empty, _) if is_itself(byte) => self.go(Progress::Member(byte)),
-            (Progress::Between, ']') => Some(Taken::Ended),
-            (Progress::Between, '\\') => self.go(Progress::Escape),
-            (Progress::Between, _) if is_itself(byte) => self.go(Progress::Member(byte)),
-            (Progress::Member(_), ']') => Some(Taken::Ended),
-            (Progress::Member(first), '-') => self.go(Progress::Dash(first)),
-            (Progress::Member(_), '\\') => self.go(Progress::Escape),
-            (Progress::Member(_), _) if is_itself(byte) => self.go(Progress::Member(byte)),
-            (Progress::Dash(first), '\\') if first <= b'}' => self.go(Progress::DashEscape(first)),
+            (Progress::Empty, '\\') => self.go(Progress::Escape, None),
+            (Progress::Empty, _) if is_itself(byte) => self.go(Progress::Member(byte), None),
+            (Progress::Between, ']') => Some(Taken::Ended(None)),
+            (Progress::Between, '\\') => self.go(Progress::Escape, None),
+            (Progress::Between, _) if is_itself(byte) => self.go(Progress::Member(byte), None),
+            (Progress::Member(first), ']') => Some(Taken::Ended(Some((first, first)))),
+            (Progress::Member(first), '-') => self.go(Progress::Dash(first), None),
+            (Progress::Member(first), '\\') => self.go(Progress::Escape, Some((first, first))),
+            (Progress::Member(first), _) if is_itself(byte) => self.go(
+                Progress::Member(byte),
+                Some((first, first)),
+            ),
+            (Progress::Dash(first), '\\') if first <= b'}' => self.go(
+                Progress::DashEscape(first),
+                None,
+            ),
             (Progress::Dash(first), _) if first <= byte && is_itself(byte) => self.go(
                 Progress::Between,
+                Some((first, byte)),
             ),
-            (Progress::Escape, _) if is_escapable(byte) => self.go(Progress::Member(byte)),
+            (Progress::Escape, _) if is_escapable(byte) => self.go(Progress::Member(byte), None),
             (Progress::DashEscape(first), _) if first <= byte && is_escapable(byte) => self.go(
                 Progress::Between,
+                Some((first, byte)),
             ),
             _ => None,
         }
@@ -104,22 +82,32 @@ pub(crate) fn end(from: Cursor) -> Result<Cursor, Fault>
     let mut progress = Progress::Empty;
     loop {
         match progress.take(here.byte()?).ok_or(here.refuse())? {
-            Taken::Inside => here = here.next(),
-            Taken::Ended => return Ok(here),
+            Taken::Inside(_) => here = here.next(),
+            Taken::Ended(_) => return Ok(here),
         }
     }
 }
 
-// The members of a class, from what stands between its brackets. Each byte can stand where it is, so
-// what `take` answers is known; the bracket that follows them finishes the last member.
+// The members so far, with the one that a byte has finished.
+fn gathered<T: Gathering>(found: &T, taken: Option<Taken>) -> T
+    ensures value { (rs : List Range) → T.Gathering.holds found.now rs → T.Gathering.holds result (with_last rs (completed taken)) }
+{
+    match taken {
+        Some(Taken::Inside(Some((low, high)))) => found.with(low, high),
+        Some(Taken::Ended(Some((low, high)))) => found.with(low, high),
+        _ => *found,
+    }
+}
+
+// The members of a class, from what stands between its brackets. Each byte can stand where it is; the
+// bracket that follows them finishes the last member.
 pub(crate) fn members<T: Gathering>(inside: &[u8]) -> T
     ensures value { (rs : List Range) → Members inside.now rs → 0 < length rs → T.Gathering.holds result rs }
 {
     let mut member = Progress::Empty;
     let mut found = T::none();
     for byte in inside {
-        found = member.finished(&found, *byte);
-        member.take(*byte);
+        found = gathered(&found, member.take(*byte));
     }
-    member.finished(&found, b']')
+    gathered(&found, member.take(b']'))
 }

@@ -2,7 +2,7 @@
 // number, and a count of 0 around them makes them 0 again. It is a number that stops, as a tally's
 // do, and no Option: each part is one sum or product.
 ghost use Rattle.std.specs.Prelude.{◌≡◌, min};
-ghost use Rattle.pattern.specs.Places.{places as places_of};
+ghost use Rattle.notation.specs.Places.{places as places_of};
 
 use crate::assembly::Assembly;
 use crate::gathering::Unseen;

@@ -3,7 +3,7 @@
 // (`OnePattern`), since no field of one can.
 ghost use Rattle.std.specs.Prelude.{◌≡◌, ◌+◌, ◌<◌, ◌≤◌, length, MatchOption, MatchResult, slice_range};
 ghost use Rattle.fault.specs.declared.Refusal.TheVariants.{BadlyWritten};
-ghost use Rattle.pattern.specs.Refusals.{refused};
+ghost use Rattle.notation.specs.Refusals.{refused};
 
 use fault::{Fault, Layer, Refusal};
 

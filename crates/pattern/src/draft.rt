@@ -1,11 +1,14 @@
 // The reading so far of one run of alternatives.
-ghost use Rattle.std.specs.Prelude.{IsSome};
+ghost use Rattle.std.specs.Prelude.{◌≡◌, true, IsSome, is_some};
 ghost use Rattle.std.specs.Fn.{FnOnceReturnsAt};
-ghost use Rattle.pattern.specs.Expressions.{Regex};
-ghost use Rattle.pattern.specs.Automaton.{Mode, Frame, ready, opened};
-ghost use Rattle.pattern.specs.Drafts.{Keeps, WholeKept, ClosedKept, AtomKept, BarKept, RepeatKept, Repeats};
+ghost use Rattle.notation.specs.Expressions.{Regex};
+ghost use Rattle.notation.specs.Automaton.{Mode, Frame, ready, opened};
+ghost use Rattle.pattern.specs.Drafts.{Keeps, WholeKept, ClosedKept, AtomKept, BarKept, RepeatKept, Repeats, Grows};
+ghost use Rattle.pattern.specs.Signs.{text, Formed, is_inner};
 
 use crate::assembly::Assembly;
+use crate::sign::Sign;
+use crate::{class, repeat};
 
 // The finished branches, where there are any; the branch so far; and the atom after it, where it
 // can still be repeated.
@@ -78,6 +81,29 @@ impl<T: Assembly> Draft<T> {
             earlier: self.earlier,
             branch: self.branch.then(&repeat(&atom)),
             last: None,
+        }
+    }
+
+    // The draft once `sign` has been read. The reader sees to the parentheses and the end itself.
+    pub(crate) fn with(&self, sign: Sign) -> Draft<T>
+        requires formed { Formed (is_some self.now.last) sign }
+        requires inner { is_inner sign ≡ true }
+        ensures value { Grows (Keeps T.Assembly.stands self.now) (Keeps T.Assembly.stands result) (is_some self.now.last) (text sign.entry) }
+    {
+        match sign {
+            Sign::Plain(t) => self.atom(T::byte(t[0])),
+            Sign::Escape(t) => self.atom(T::byte(t[1])),
+            Sign::Any(_) => self.atom(T::any()),
+            Sign::Class(inside) => self.atom(T::class(&class::members(inside))),
+            Sign::Bar(_) => self.bar(),
+            Sign::Star(_) => self.repeated(|atom| atom.star()),
+            Sign::Plus(_) => self.repeated(|atom| atom.plus()),
+            Sign::Question(_) => self.repeated(|atom| atom.optional()),
+            Sign::Counted(t) => {
+                let (least, most) = repeat::pair(t);
+                self.repeated(|atom| atom.counted(least, most))
+            }
+            Sign::Open(_) | Sign::Close(_) | Sign::End => *self,
         }
     }
 }

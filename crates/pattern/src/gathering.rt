@@ -1,6 +1,6 @@
 // What the members of a class are gathered as, one after the other.
 ghost use Rattle.std.specs.Prelude.{List, [], ◌∷◌, ◌++◌};
-ghost use Rattle.pattern.specs.Expressions.{Range};
+ghost use Rattle.notation.specs.Expressions.{Range};
 
 pub trait Gathering: Copy {
     ghost holds: { Self → List Range → Type 0 };

@@ -1,17 +1,17 @@
-// Patterns: how they are written, read and refused, and what they mean.
+// Patterns as they are read: each is granted or refused, and put together.
 #![tactic(auto)]
 
 pub mod assembly;
+mod character;
 mod class;
 mod count;
 mod cursor;
 mod draft;
-pub mod examples;
 pub mod gathering;
 mod reader;
+mod reading;
 pub mod record;
 mod repeat;
 mod sign;
-mod verdict;
 
 pub use crate::record::Pattern;

@@ -1,12 +1,12 @@
 // The pattern record, which is lent to be read into. It always holds a pattern that was granted,
 // at first the empty one; `bytes` and `assemble` say so to their callers.
 ghost use Rattle.std.specs.Prelude.{◌≡◌, [], is_ok, Decides, MatchResult};
-ghost use Rattle.pattern.specs.Expressions.{Regex};
-ghost use Rattle.pattern.specs.Grammar.{Written, deepest, OneReading};
-ghost use Rattle.pattern.specs.Reading.{Readable, Granted, Refused};
+ghost use Rattle.notation.specs.Expressions.{Regex};
+ghost use Rattle.notation.specs.Grammar.{Written, deepest, OneReading};
+ghost use Rattle.notation.specs.Reading.{Readable, Granted, Refused};
 
 use crate::assembly::Assembly;
-use crate::verdict::{assemble, judge};
+use crate::reading::{assemble, places};
 use arrayvec::ArrayVec;
 use fault::Fault;
 use std::marker::Model;
@@ -18,7 +18,7 @@ pub struct Pattern {
 
 impl Model for Pattern {
     ghost use Rattle.std.specs.Prelude.{ℕ, List};
-    ghost use Rattle.pattern.specs.Reading.{Readable};
+    ghost use Rattle.notation.specs.Reading.{Readable};
 
     ghost Value = { List ℕ };
 
@@ -58,10 +58,10 @@ impl Pattern {
         ensures exactly { Decides (is_ok result) (Readable bytes.now) }
     {
         *self = Pattern::new();
-        let places = judge(bytes)?;
+        let count = places(bytes)?;
         *self = Pattern {
             bytes: ArrayVec::try_from(bytes).unwrap(),
         };
-        Ok(places)
+        Ok(count)
     }
 }

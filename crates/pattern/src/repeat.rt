@@ -1,7 +1,7 @@
 // The counted repeat, from after its brace: a least and a most count, or one for both.
 ghost use Rattle.std.specs.Prelude.{◌≡◌, ℕ, ◌+◌, ◌<◌, ◌≤◌, Decides, IfOk, MatchOption, MatchResult};
 ghost use Rattle.pattern.specs.Cursors.{OnePattern, Stands};
-ghost use Rattle.pattern.specs.Automaton.{count_kind, digit, count_can_begin, count_can_go_on};
+ghost use Rattle.notation.specs.Automaton.{count_kind, digit, count_can_begin, count_can_go_on};
 ghost use Rattle.pattern.specs.Repeats.{NumberRead, NumberRefused, CountsRead, CountsRefused, Braced};
 
 use crate::cursor::Cursor;

@@ -2,9 +2,10 @@
 ghost use Rattle.std.specs.Prelude.{◌≡◌, ◌^◌, ◌<◌, Bool, true, false, length, MatchResult};
 ghost use Rattle.pattern.specs.Cursors.{Stands};
 ghost use Rattle.fault.specs.declared.Refusal.TheVariants.{BadlyWritten};
-ghost use Rattle.pattern.specs.Refusals.{refused};
+ghost use Rattle.notation.specs.Refusals.{refused};
 ghost use Rattle.pattern.specs.Signs.{text, Handed, SignRefused};
 
+use crate::character::is_escapable;
 use crate::cursor::Cursor;
 use crate::{class, repeat};
 use fault::Fault;
@@ -59,7 +60,7 @@ fn repeat_sign<'a>(sign: Sign<'a>, from: Cursor, after: bool) -> Result<Sign<'a>
 
 fn counted(from: Cursor, after: bool) -> Result<Sign, Fault>
     requires brace { Stands from 123 }
-    ensures cases { MatchResult result (λ s. Handed from.entry.pattern.now from.entry.at after s) (λ f. SignRefused from.entry.pattern.now from.entry.at after f) }
+    ensures cases { MatchResult result (Handed from.entry.pattern.now from.entry.at after) (SignRefused from.entry.pattern.now from.entry.at after) }
 {
     if !after {
         return Err(from.refuse());
@@ -70,7 +71,7 @@ fn counted(from: Cursor, after: bool) -> Result<Sign, Fault>
 
 fn class_sign(from: Cursor) -> Result<Sign, Fault>
     requires bracket { Stands from 91 }
-    ensures cases { (after : Bool) → MatchResult result (λ s. Handed from.entry.pattern.now from.entry.at after s) (λ f. SignRefused from.entry.pattern.now from.entry.at after f) }
+    ensures cases { (after : Bool) → MatchResult result (Handed from.entry.pattern.now from.entry.at after) (SignRefused from.entry.pattern.now from.entry.at after) }
 {
     let inside = from.next();
     let end = class::end(inside)?;
@@ -79,10 +80,10 @@ fn class_sign(from: Cursor) -> Result<Sign, Fault>
 
 fn escape(from: Cursor) -> Result<Sign, Fault>
     requires backslash { Stands from 92 }
-    ensures cases { (after : Bool) → MatchResult result (λ s. Handed from.entry.pattern.now from.entry.at after s) (λ f. SignRefused from.entry.pattern.now from.entry.at after f) }
+    ensures cases { (after : Bool) → MatchResult result (Handed from.entry.pattern.now from.entry.at after) (SignRefused from.entry.pattern.now from.entry.at after) }
 {
     let escaped = from.next();
-    if !class::is_escapable(escaped.byte()?) {
+    if !is_escapable(escaped.byte()?) {
         return Err(escaped.refuse());
     }
     Ok(Sign::Escape(from.until(escaped.next())))
@@ -90,7 +91,7 @@ fn escape(from: Cursor) -> Result<Sign, Fault>
 
 // The sign at `at`, where `after` says that an atom stands before it that can still be repeated.
 pub(crate) fn sign_at(p: &[u8], at: usize, after: bool) -> Result<Sign, Fault>
-    ensures cases { MatchResult result (λ s. Handed p.now at after s) (λ f. SignRefused p.now at after f) }
+    ensures cases { MatchResult result (Handed p.now at after) (SignRefused p.now at after) }
 {
     if at >= p.len() {
         return Ok(Sign::End);

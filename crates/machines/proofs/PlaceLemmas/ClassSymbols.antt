@@ -1,8 +1,8 @@
 -- The symbol of a class, member by member. Assumes nothing.
 use Rattle.std.proofs.Common.{ℕ, ◌<◌, ◌≤◌, List, [], ◌∷◌, ◌++◌, length, inl, inr, ⊎_elim, arith}
-use Rattle.pattern.specs.Expressions.{Range, Symbol, Takes, byte, any}
-use Rattle.pattern.specs.Grammar.{ClassByte, bare, escaped, Member, single, range, Members, none, more}
-use Rattle.pattern.proofs.Chars.{escapable_low}
+use Rattle.notation.specs.Expressions.{Range, Symbol, Takes, byte, any}
+use Rattle.notation.specs.Grammar.{ClassByte, bare, escaped, Member, single, range, Members, none, more}
+use Rattle.notation.proofs.Chars.{escapable_low}
 use Rattle.machines.specs.Place.Letters.{Widens}
 use Rattle.machines.specs.Soundness.{TakesSome}
 

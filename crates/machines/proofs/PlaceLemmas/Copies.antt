@@ -1,7 +1,7 @@
 -- A counted repeat as copies in a series: so many that must be there, and then some that may. Assumes nothing.
 use Rattle.std.proofs.Common.{◌≡◌, ℕ, Option, zero, suc, ◌+◌, ◌-◌, ◌*◌, ◌≤◌, sym, refl, ap, ◌∙◌, suc-mul, add-mul, zero-mul, arith}
-use Rattle.pattern.specs.Expressions.{Expr, seq, opt, counted, Regex}
-use Rattle.pattern.specs.Places.{places}
+use Rattle.notation.specs.Expressions.{Expr, seq, opt, counted, Regex}
+use Rattle.notation.specs.Places.{places}
 use Rattle.machines.specs.declared.place.fragment.Numbered.{Numbered}
 use Rattle.machines.specs.Soundness.{Sane}
 use Rattle.machines.specs.Place.Spellings.{copies, series, spread}

@@ -1,7 +1,7 @@
 -- The tables of one language or another. Assumes nothing.
 use Rattle.std.proofs.Common.{inl, inr, ⊎_elim, arith}
-use Rattle.pattern.specs.Expressions.{Symbol}
-use Rattle.pattern.specs.Meaning.{Lang, Union}
+use Rattle.notation.specs.Expressions.{Symbol}
+use Rattle.notation.specs.Meaning.{Lang, Union}
 use Rattle.machines.specs.declared.place.tables.Tables.{Tables}
 use Rattle.machines.specs.Place.Operations.{Either}
 use Rattle.machines.specs.Place.Spellings.{Place}

@@ -1,8 +1,8 @@
 -- The tables of a language whose places are all numbered n later. Assumes nothing.
 use Rattle.std.proofs.Common.{◌≡◌, ℕ, ◌+◌, ◌-◌, ◌<◌, ◌≤◌, List, [], ◌∷◌, ◌++◌, map, sym, refl, ap, ◌∙◌, subst, inl, inr, ⊎_elim, arith}
 use Rattle.std.proofs.lemmas.List.{map-append}
-use Rattle.pattern.specs.Expressions.{Symbol, Takes}
-use Rattle.pattern.specs.Meaning.{Lang}
+use Rattle.notation.specs.Expressions.{Symbol, Takes}
+use Rattle.notation.specs.Meaning.{Lang}
 use Rattle.machines.specs.declared.place.tables.Tables.{Tables}
 use Rattle.machines.specs.Place.Operations.{followers, takers, Later}
 use Rattle.relations.specs.Masks.{Has}

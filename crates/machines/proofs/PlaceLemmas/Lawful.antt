@@ -1,6 +1,6 @@
 -- The laws of place machines, and what a machine is built for. Assumes nothing.
 use Rattle.std.proofs.Common.{[], sym, ap, ◌∙◌, append-nil, arith}
-use Rattle.pattern.specs.Expressions.{Regex, Takes}
+use Rattle.notation.specs.Expressions.{Regex, Takes}
 use Rattle.machines.specs.declared.place.tables.Tables.{Tables}
 use Rattle.machines.specs.Place.Built.{BuiltFor}
 use Rattle.machines.specs.Place.Laws.{SpelledExactly, EachPlaceLives, MeansExactly, ReachesExactly, JoinsExactly, Neutral, PlaceLaws}

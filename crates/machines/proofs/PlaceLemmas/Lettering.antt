@@ -3,7 +3,7 @@ use Rattle.std.proofs.Common.{◌≡◌, ℕ, ◌<◌, ◌≤◌, ◌&&◌, leb,
 use Rattle.std.proofs.lemmas.Bool.{leb-true, le-leb}
 use Rattle.std.proofs.lemmas.Bool.Decides.{Decides-and}
 use mathlib.Core.Logic.{∥∥₁_map}
-use Rattle.pattern.specs.Expressions.{Symbol, byte}
+use Rattle.notation.specs.Expressions.{Symbol, byte}
 use Rattle.machines.specs.Place.Letters.{LettersOf, SomeLetters, Widens}
 use Rattle.relations.specs.Masks.{Has, SetOf, Only}
 use Rattle.relations.proofs.Combining.{only_members, swapped}

@@ -2,9 +2,9 @@
 use Rattle.std.proofs.Common.{◌≡◌, ℕ, zero, suc, ◌+◌, ◌-◌, ◌*◌, List, [], ◌∷◌, ◌++◌, map, sym, refl, ap, ◌∙◌, subst, inl, inr, ⊎_elim, arith}
 use Rattle.std.specs.List.{flat_map, AllByRecursion}
 use Rattle.std.proofs.lemmas.List.{map-append}
-use Rattle.pattern.specs.Expressions.{Expr, one, empty, seq, alt, star, plus, opt, counted}
-use Rattle.pattern.specs.Meaning.{Lang, Empty, Joined, Union, Closure, Means}
-use Rattle.pattern.specs.Places.{places}
+use Rattle.notation.specs.Expressions.{Expr, one, empty, seq, alt, star, plus, opt, counted}
+use Rattle.notation.specs.Meaning.{Lang, Empty, Joined, Union, Closure, Means}
+use Rattle.notation.specs.Places.{places}
 use Rattle.machines.specs.Place.Spellings.{Place, series, spread, SpellingFrom}
 use Rattle.machines.specs.Place.Shown.Repeating.{closure_none, closure_more}
 

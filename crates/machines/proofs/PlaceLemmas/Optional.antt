@@ -1,7 +1,7 @@
 -- The tables of a language or nothing. Assumes nothing.
 use Rattle.std.proofs.Common.{refl, inl, inr, ⊎_elim, arith}
-use Rattle.pattern.specs.Expressions.{Symbol}
-use Rattle.pattern.specs.Meaning.{Lang, Empty, Union}
+use Rattle.notation.specs.Expressions.{Symbol}
+use Rattle.notation.specs.Meaning.{Lang, Empty, Union}
 use Rattle.machines.specs.declared.place.tables.Tables.{Tables}
 use Rattle.machines.specs.Place.Operations.{Optional}
 use Rattle.machines.specs.Place.Spellings.{Place}

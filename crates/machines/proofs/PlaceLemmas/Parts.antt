@@ -1,9 +1,9 @@
 -- The parts of a machine, put together: what represents two expressions represents the one that is made of them. Assumes nothing.
 use Rattle.std.proofs.Common.{◌≡◌, ℕ, ◌+◌, ◌≤◌, min, List, get_or, refl, ap, ◌∙◌, subst, arith}
 use mathlib.Core.Logic.{∥∥₁_map}
-use Rattle.pattern.specs.Expressions.{one, empty, seq, alt, star, opt, Regex, Symbol}
-use Rattle.pattern.specs.Meaning.{Means}
-use Rattle.pattern.specs.Places.{places}
+use Rattle.notation.specs.Expressions.{one, empty, seq, alt, star, opt, Regex, Symbol}
+use Rattle.notation.specs.Meaning.{Means}
+use Rattle.notation.specs.Places.{places}
 use Rattle.machines.specs.declared.place.tables.Tables.{Tables}
 use Rattle.machines.specs.Place.Operations.{TablesBy, Later, Then, Either, Star, Optional}
 use Rattle.machines.specs.Place.Fragments.{Represents, Part}

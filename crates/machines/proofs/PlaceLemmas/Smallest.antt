@@ -2,8 +2,8 @@
 use Rattle.std.proofs.Common.{◌≡◌, ℕ, ◌<◌, ◌↔◌, List, [], ◌∷◌, get_or, set, replicate, sym, refl, ap, ◌∙◌, subst, ⊎_elim, get_or-set_other, arith}
 use Rattle.std.proofs.lemmas.List.{get_or-replicate}
 use Rattle.std.proofs.lemmas.Bool.{cases_eq}
-use Rattle.pattern.specs.Expressions.{Symbol, Takes}
-use Rattle.pattern.specs.Meaning.{Empty}
+use Rattle.notation.specs.Expressions.{Symbol, Takes}
+use Rattle.notation.specs.Meaning.{Empty}
 use Rattle.relations.specs.Masks.{Has, SetOf}
 use Rattle.relations.proofs.Bits.{zero_has}
 use Rattle.relations.proofs.Combining.{own_members}

@@ -1,7 +1,7 @@
 -- What stands for one expression stands for another whose places are written out in the same way. Assumes nothing.
 use Rattle.std.proofs.Common.{◌≡◌, Option, Some, None, refl, arith}
-use Rattle.pattern.specs.Expressions.{seq, star, plus, Regex}
-use Rattle.pattern.specs.Places.{places}
+use Rattle.notation.specs.Expressions.{seq, star, plus, Regex}
+use Rattle.notation.specs.Places.{places}
 use Rattle.machines.specs.declared.place.fragment.Numbered.{Numbered}
 use Rattle.machines.specs.Soundness.{Sane}
 use Rattle.machines.specs.Place.Spellings.{spread}

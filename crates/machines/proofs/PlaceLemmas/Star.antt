@@ -1,7 +1,7 @@
 -- The tables of a language any number of times. Assumes nothing.
 use Rattle.std.proofs.Common.{refl, inl, inr, ⊎_elim, arith}
-use Rattle.pattern.specs.Expressions.{Symbol}
-use Rattle.pattern.specs.Meaning.{Lang, Closure}
+use Rattle.notation.specs.Expressions.{Symbol}
+use Rattle.notation.specs.Meaning.{Lang, Closure}
 use Rattle.machines.specs.declared.place.tables.Tables.{Tables}
 use Rattle.machines.specs.Place.Operations.{Star}
 use Rattle.machines.specs.Place.Spellings.{Place}

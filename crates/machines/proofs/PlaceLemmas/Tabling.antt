@@ -1,8 +1,8 @@
 -- Tables that represent a language over places, and those of two languages joined. Assumes nothing.
 use Rattle.std.proofs.Common.{ℕ, ◌<◌, ◌≤◌, ◌↔◌, List, [], ◌∷◌}
-use Rattle.pattern.specs.Expressions.{Regex, Symbol, Takes}
-use Rattle.pattern.specs.Meaning.{Lang}
-use Rattle.pattern.specs.Places.{places}
+use Rattle.notation.specs.Expressions.{Regex, Symbol, Takes}
+use Rattle.notation.specs.Meaning.{Lang}
+use Rattle.notation.specs.Places.{places}
 use Rattle.machines.specs.declared.place.tables.Tables.{Tables}
 use Rattle.machines.specs.Place.Operations.{followers, takers}
 use Rattle.relations.specs.Masks.{Has}

@@ -1,8 +1,8 @@
 -- The tables of one language and then another. Assumes nothing.
 use Rattle.std.proofs.Common.{◌≡◌, ℕ, ◌≤◌, Bool, not, ◌==◌, Decides, [], sym, refl, ◌∙◌, subst, inl, inr, ⊎_elim, arith}
 use Rattle.std.proofs.lemmas.Bool.{eqb-false, ne_eqb, not-true, not_from_false}
-use Rattle.pattern.specs.Expressions.{Symbol}
-use Rattle.pattern.specs.Meaning.{Lang, Joined}
+use Rattle.notation.specs.Expressions.{Symbol}
+use Rattle.notation.specs.Meaning.{Lang, Joined}
 use Rattle.machines.specs.declared.place.tables.Tables.{Tables}
 use Rattle.machines.specs.Place.Operations.{Then}
 use Rattle.machines.specs.Place.Spellings.{Place}

@@ -6,9 +6,9 @@
 --   Built p t M leg      it is that of the expression that the pattern p is read as
 use Rattle.std.specs.Prelude.{ℕ, ◌↔◌, List}
 use Rattle.folding.specs.Texts.{Bytes}
-use Rattle.pattern.specs.Expressions.{Regex}
-use Rattle.pattern.specs.Grammar.{Written, deepest}
-use Rattle.pattern.specs.Meaning.{Matches}
+use Rattle.notation.specs.Expressions.{Regex}
+use Rattle.notation.specs.Grammar.{Written, deepest}
+use Rattle.notation.specs.Meaning.{Matches}
 use Rattle.relations.specs.declared.relation.Relation.{Relation}
 use Rattle.machines.specs.declared.place.tables.Tables.{Tables}
 use Rattle.machines.specs.Place.Tables.{TablesOf}

@@ -1,6 +1,6 @@
 -- The letters of a class, or nothing where no byte is taken. Assumes nothing.
 use Rattle.std.specs.Prelude.{ℕ, ◌<◌, Option, MatchOption}
-use Rattle.pattern.specs.Expressions.{Symbol, Takes}
+use Rattle.notation.specs.Expressions.{Symbol, Takes}
 use Rattle.machines.specs.declared.place.letters.Letters.{Letters}
 use Rattle.machines.specs.Place.Letters.{LettersOf}
 

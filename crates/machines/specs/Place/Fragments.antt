@@ -4,8 +4,8 @@
 --   Part t n           t and n represent some expression
 --   TooMany e          e is sane, and has more than 63 places
 use Rattle.std.specs.Prelude.{◌≡◌, ℕ, ◌<◌, ◌≤◌, min}
-use Rattle.pattern.specs.Expressions.{Regex}
-use Rattle.pattern.specs.Places.{places}
+use Rattle.notation.specs.Expressions.{Regex}
+use Rattle.notation.specs.Places.{places}
 use Rattle.machines.specs.declared.place.tables.Tables.{Tables}
 use Rattle.machines.specs.Place.Tables.{TablesOf}
 use Rattle.machines.specs.Soundness.{Sane}

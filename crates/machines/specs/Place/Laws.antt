@@ -9,9 +9,9 @@
 --   PlaceLaws        all of these, and that composing relations is associative
 use Rattle.std.specs.Prelude.{◌≡◌, ℕ, ◌≤◌, ◌↔◌, List, [], ◌++◌}
 use Rattle.folding.specs.Texts.{Bytes}
-use Rattle.pattern.specs.Expressions.{Regex, Symbol, Takes}
-use Rattle.pattern.specs.Meaning.{Matches}
-use Rattle.pattern.specs.Places.{places}
+use Rattle.notation.specs.Expressions.{Regex, Symbol, Takes}
+use Rattle.notation.specs.Meaning.{Matches}
+use Rattle.notation.specs.Places.{places}
 use Rattle.machines.specs.declared.place.tables.Tables.{Tables}
 use Rattle.machines.specs.Place.Tables.{TablesOf, Made, Meant}
 use Rattle.relations.specs.Relations.{composed, Associative}

@@ -4,7 +4,7 @@
 --   SomeLetters takes   the rows are those of some symbol that takes a byte
 --   Widens s low high s'   s' takes what s takes, and the bytes from `low` to `high`
 use Rattle.std.specs.Prelude.{◌≡◌, ℕ, ◌<◌, ◌≤◌, ◌⊎◌, ◌↔◌, List, slice_index}
-use Rattle.pattern.specs.Expressions.{Symbol, Takes}
+use Rattle.notation.specs.Expressions.{Symbol, Takes}
 use Rattle.relations.specs.Masks.{Has}
 use Rattle.machines.specs.Soundness.{TakesSome}
 

@@ -5,8 +5,8 @@
 --                      the places of both
 --   ChangesSome by, CombinesSome by   it does so for some `make`
 use Rattle.std.specs.Prelude.{◌≡◌, ℕ, ◌+◌, ◌≤◌}
-use Rattle.pattern.specs.Expressions.{Regex}
-use Rattle.pattern.specs.Places.{places}
+use Rattle.notation.specs.Expressions.{Regex}
+use Rattle.notation.specs.Places.{places}
 use Rattle.machines.specs.declared.place.tables.Tables.{Tables}
 use Rattle.machines.specs.Place.Operations.{Later}
 use Rattle.machines.specs.Place.Fragments.{Represents}

@@ -7,7 +7,7 @@
 --   leg t w           for each state the set of states that w leads to, by the tables
 --   IsLeg e l w       l has for each state exactly the states that w leads to
 use Rattle.std.specs.Prelude.{◌≡◌, ℕ, zero, suc, ◌^◌, ◌<◌, ◌↔◌, List, [], ◌∷◌, bit_and, slice_index}
-use Rattle.pattern.specs.Expressions.{Regex}
+use Rattle.notation.specs.Expressions.{Regex}
 use Rattle.relations.specs.declared.relation.Relation.{Relation}
 use Rattle.machines.specs.declared.place.tables.Tables.{Tables}
 use Rattle.relations.specs.Masks.{Has, image}

@@ -7,9 +7,9 @@
 --   First L p   p comes first in some member of L;  Ends L p: p ends one;  On L p: p stands in one
 --   Follows L q p   p stands directly after q in some member of L
 use Rattle.std.specs.Prelude.{◌≡◌, ℕ, zero, suc, ◌+◌, ◌-◌, ◌*◌, List, [], ◌∷◌, ◌++◌}
-use Rattle.pattern.specs.Expressions.{Expr, one, empty, seq, alt, star, plus, opt, counted}
-use Rattle.pattern.specs.Meaning.{Lang, Means}
-use Rattle.pattern.specs.Places.{places}
+use Rattle.notation.specs.Expressions.{Expr, one, empty, seq, alt, star, plus, opt, counted}
+use Rattle.notation.specs.Meaning.{Lang, Means}
+use Rattle.notation.specs.Places.{places}
 
 abbrev pub Place : Type 0 → Type 0
 Place S = ℕ × S

@@ -2,7 +2,7 @@
 --
 --   StandsFor e o   the tables and the count represent e, or there are none, and e is sane and has more than 63 places
 use Rattle.std.specs.Prelude.{Option, MatchOption}
-use Rattle.pattern.specs.Expressions.{Regex}
+use Rattle.notation.specs.Expressions.{Regex}
 use Rattle.machines.specs.declared.place.fragment.Numbered.{Numbered}
 use Rattle.machines.specs.Place.Fragments.{Represents, TooMany}
 

@@ -9,9 +9,9 @@
 --   Made t             t is the machine of some expression that can be read from a pattern
 --   Meant t w          w is matched by the expression whose machine t is
 use Rattle.std.specs.Prelude.{ℕ, ◌<◌, ◌≤◌, ◌↔◌, List, [], slice_index}
-use Rattle.pattern.specs.Expressions.{Regex, Symbol, Takes}
-use Rattle.pattern.specs.Meaning.{Matches}
-use Rattle.pattern.specs.Places.{places}
+use Rattle.notation.specs.Expressions.{Regex, Symbol, Takes}
+use Rattle.notation.specs.Meaning.{Matches}
+use Rattle.notation.specs.Places.{places}
 use Rattle.machines.specs.declared.place.tables.Tables.{Tables}
 use Rattle.relations.specs.Masks.{Has}
 use Rattle.machines.specs.Soundness.{Sane}

@@ -28,7 +28,7 @@ pub struct Fragment {
 
 impl Fragment {
     ghost use Rattle.std.specs.Fn.{FnOnceReturnsAt, FnOnceReturnsAtPair};
-    ghost use Rattle.pattern.specs.Expressions.{Regex, Symbol, one};
+    ghost use Rattle.notation.specs.Expressions.{Regex, Symbol, one};
     ghost use Rattle.machines.specs.Place.Letters.{LettersOf};
     ghost use Rattle.machines.specs.Place.Making.{Changes, ChangesSome, Combines, CombinesSome};
     ghost use Rattle.machines.specs.Soundness.{TakesSome};

@@ -1,6 +1,6 @@
 // The bytes that a place takes.
 ghost use Rattle.std.specs.Prelude.{◌≡◌, ℕ, ◌<◌, ◌≤◌, ◌↔◌, slice_index};
-ghost use Rattle.pattern.specs.Expressions.{Symbol, byte as byte_of};
+ghost use Rattle.notation.specs.Expressions.{Symbol, byte as byte_of};
 ghost use Rattle.machines.specs.Place.Letters.{LettersOf, SomeLetters, Widens};
 ghost use Rattle.relations.specs.Masks.{Has};
 

@@ -2,7 +2,7 @@
 use Rattle.std.specs.Prelude.{◌≡◌, ℕ, ◌<◌, ◌≤◌, ◌⊎◌, List, [], ◌∷◌, ◌++◌, refl}
 use Rattle.std.proofs.Common.{sym, ap, subst, inl, inr, ⊎_elim, arith}
 use Rattle.std.proofs.lemmas.Bool.{cases_lt}
-use Rattle.pattern.specs.Meaning.{Lang, Joined, Closure}
+use Rattle.notation.specs.Meaning.{Lang, Joined, Closure}
 use Rattle.machines.specs.Place.Spellings.{Place, First}
 use Rattle.machines.specs.Place.Shown.Joining.{on_first, on_ends, on_before, on_after, joined_first, joined_ends, joined_follows, joined_on, joined_on_left, joined_on_right, on_larger}
 use Rattle.machines.specs.Place.Shown.Repeating.{closure_once, closure_none, closure_more, closure_first, closure_ends, closure_follows, closure_on}

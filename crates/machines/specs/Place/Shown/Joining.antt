@@ -1,7 +1,7 @@
 -- What comes first, ends, follows and stands in the members of two languages joined or united. Assumes nothing.
 use Rattle.std.specs.Prelude.{◌⊎◌, List, [], ◌∷◌, ◌++◌, ◌≢◌, refl}
 use Rattle.std.proofs.Common.{sym, subst, append_assoc, append-nil, inl, inr, ⊎_elim}
-use Rattle.pattern.specs.Meaning.{Lang, Empty, Joined, Union}
+use Rattle.notation.specs.Meaning.{Lang, Empty, Joined, Union}
 use Rattle.machines.specs.Place.Spellings.{First, Ends, Follows, On}
 use Rattle.machines.specs.Place.Shown.Splits.{split_at, split_pair, split_last, split_first, not_empty}
 

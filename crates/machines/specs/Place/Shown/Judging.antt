@@ -3,9 +3,9 @@
 use Rattle.std.specs.Prelude.{◌≡◌, ℕ, zero, suc, ◌+◌, ◌<◌, ◌≤◌, ◌⊎◌, List, [], ◌∷◌, ◌++◌, refl}
 use Rattle.std.proofs.Common.{sym, subst, append_assoc, inr, ⊎_elim, arith}
 use Rattle.folding.specs.Texts.{Bytes}
-use Rattle.pattern.specs.Expressions.{Regex, Symbol, Takes}
-use Rattle.pattern.specs.Meaning.{Matches, Lang}
-use Rattle.pattern.specs.Places.{places}
+use Rattle.notation.specs.Expressions.{Regex, Symbol, Takes}
+use Rattle.notation.specs.Meaning.{Matches, Lang}
+use Rattle.notation.specs.Places.{places}
 use Rattle.machines.specs.declared.place.tables.Tables.{Tables}
 use Rattle.relations.specs.Masks.{Has}
 use Rattle.machines.specs.Place.Tables.{TablesOf, Comes, PlaceTakes}

@@ -5,8 +5,8 @@
 --                 and each walk from a first place is a member
 use Rattle.std.specs.Prelude.{◌≡◌, ℕ, ◌+◌, ◌<◌, ◌≤◌, List, [], ◌∷◌, ◌++◌, ◌≢◌, refl}
 use Rattle.std.proofs.Common.{sym, ap, ◌∙◌, inl, inr, ⊎_elim, arith}
-use Rattle.pattern.specs.Expressions.{one}
-use Rattle.pattern.specs.Meaning.{Lang, Empty, Union, Means}
+use Rattle.notation.specs.Expressions.{one}
+use Rattle.notation.specs.Meaning.{Lang, Empty, Union, Means}
 use Rattle.std.proofs.lemmas.Bool.{cases_lt}
 use Rattle.machines.specs.Place.Spellings.{Place, First, Ends, Follows, On}
 use Rattle.machines.specs.Place.Shown.Splits.{head_same, tail_same, not_empty}

@@ -9,8 +9,8 @@ use Rattle.std.proofs.lemmas.Bool.{eqb-true, eqb-false, ne_eqb, not-true, not_fr
 use Rattle.folding.specs.Sets.{Hopeful, Lost}
 use Rattle.folding.specs.Texts.{Bytes}
 use Rattle.folding.proofs.Texts.{bytes_append}
-use Rattle.pattern.specs.Expressions.{Regex}
-use Rattle.pattern.specs.Meaning.{Matches}
+use Rattle.notation.specs.Expressions.{Regex}
+use Rattle.notation.specs.Meaning.{Matches}
 use Rattle.relations.specs.declared.relation.Relation.{Relation}
 use Rattle.machines.specs.declared.place.tables.Tables.{Tables}
 use Rattle.relations.specs.Masks.{Has}

@@ -2,7 +2,7 @@
 use Rattle.std.specs.Prelude.{◌≡◌, ◌⊎◌, List, [], ◌∷◌, ◌++◌, refl}
 use Rattle.std.proofs.Common.{sym, ap, subst, ◌∙◌, append_assoc, append-nil, inl, inr, ⊎_elim}
 use Rattle.std.specs.List.{flat_map, AllByRecursion}
-use Rattle.pattern.specs.Meaning.{Lang, Closure}
+use Rattle.notation.specs.Meaning.{Lang, Closure}
 use Rattle.machines.specs.Place.Spellings.{First, Ends, Follows, On}
 use Rattle.machines.specs.Place.Shown.Splits.{split_at, split_pair, split_last, split_first, not_empty}
 use Rattle.machines.specs.Place.Shown.Joining.{none_append}

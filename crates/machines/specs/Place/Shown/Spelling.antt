@@ -2,9 +2,9 @@
 use Rattle.std.specs.Prelude.{◌≡◌, ℕ, zero, suc, ◌+◌, ◌-◌, ◌*◌, List, [], ◌∷◌, ◌++◌, refl}
 use Rattle.std.proofs.Common.{sym, ap, subst, ◌∙◌, inl, inr, ⊎_elim}
 use Rattle.std.specs.List.{flat_map, AllByRecursion}
-use Rattle.pattern.specs.Expressions.{Expr, one, empty, seq, alt, star, plus, opt, counted}
-use Rattle.pattern.specs.Meaning.{Lang, Empty, Joined, Union, Closure, Copies, Means}
-use Rattle.pattern.specs.Places.{places}
+use Rattle.notation.specs.Expressions.{Expr, one, empty, seq, alt, star, plus, opt, counted}
+use Rattle.notation.specs.Meaning.{Lang, Empty, Joined, Union, Closure, Copies, Means}
+use Rattle.notation.specs.Places.{places}
 use Rattle.machines.specs.Place.Spellings.{Place, series, spread, SpellingFrom, Spells, Spelled}
 use Rattle.machines.specs.Place.Shown.Repeating.{closure_none, closure_more}
 

@@ -2,9 +2,9 @@
 -- through the follow relation is one. Assumes nothing.
 use Rattle.std.specs.Prelude.{◌≡◌, ℕ, zero, suc, ◌+◌, ◌-◌, ◌*◌, ◌≤◌}
 use Rattle.std.proofs.Common.{ap, subst, ◌∙◌, suc-mul, zero-mul, add-mul, arith}
-use Rattle.pattern.specs.Expressions.{Expr, one, empty, seq, alt, star, plus, opt, counted}
-use Rattle.pattern.specs.Meaning.{Lang, Empty, Union, Closure, Means}
-use Rattle.pattern.specs.Places.{places}
+use Rattle.notation.specs.Expressions.{Expr, one, empty, seq, alt, star, plus, opt, counted}
+use Rattle.notation.specs.Meaning.{Lang, Empty, Union, Closure, Means}
+use Rattle.notation.specs.Places.{places}
 use Rattle.machines.specs.Soundness.{Sound}
 use Rattle.machines.specs.Place.Spellings.{Place, series, spread, SpellingFrom}
 use Rattle.machines.specs.Place.Shown.Linear.{Linear, single_linear, empty_linear, union_linear}

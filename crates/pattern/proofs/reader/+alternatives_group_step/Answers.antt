@@ -1,12 +1,12 @@
-use Rattle.std.proofs.Common.{rules, ◌≡◌, suc, ◌-◌, length, get_or, refl, ap, subst, arith}
-use Rattle.pattern.specs.Expressions.{one, byte}
+use Rattle.std.proofs.Common.{◌≡◌, suc, ◌-◌, length, refl, ap, subst, arith}
 use Rattle.pattern.proofs.Exits.{handed_on}
 use Rattle.std.proofs.lemmas.Option.{MatchOption-at_none}
-use Rattle.pattern.specs.Automaton.{ready, opened}
+use Rattle.notation.specs.Automaton.{ready, opened}
+use Rattle.pattern.specs.Signs.{Formed, Handed}
 use Rattle.pattern.proofs.Drafting.{keeps_waits}
 use Rattle.pattern.proofs.Groups.{too_deep, inner_stops, unfinished, group_read}
 use Rattle.pattern.proofs.Walking.{sign_stops, group_stops, walk_stops, walk_all}
-use Rattle.pattern.proofs.SignSteps.{begun, plain_of, escape_of, any_of, class_of, bar_of, star_of, opt_of, plus_of, counted_of, braced_of, group_steps}
+use Rattle.pattern.proofs.SignSteps.{begun, inner, grown, group_steps}
 use Rattle.pattern.proofs.reader.+alternatives_group_step.Goals as goal
 
 pub alternatives-loop-next-init : goal.alternatives-loop-next-init
@@ -57,34 +57,12 @@ step-returns-in_err-end-in-Open-clause-cases g t c =
 pub step-returns-in_ok-end-in-Open-clause-cases : goal.step-returns-in_ok-end-in-Open-clause-cases
 step-returns-in_ok-end-in-Open-clause-cases g t c =
     let (lt, is) = begun _ _ _ _ _ 40 c.in_ok-sign.ensures.cases c.in-Open.is refl (λ f. f) in
-    group_steps _ _ _ _ _ (keeps_waits g.T.Assembly.stands c.args.draft.now c.is_some.ensures) lt _ _ _ _ is c.in_ok-end-in-Open.ensures.cases c.atom.ensures.value
+    group_steps _ _ _ _ _ _ (keeps_waits g.T.Assembly.stands c.args.draft.now c.is_some.ensures) _ _ _ is c.in_ok-end-in-Open.ensures.cases c.atom.ensures.value
 
-pub step-returns-in-Bar-clause-cases : goal.step-returns-in-Bar-clause-cases
-step-returns-in-Bar-clause-cases g t c = rw c.skip-end.ensures.at (bar_of _ _ _ _ _ _ _ (keeps_waits g.T.Assembly.stands c.args.draft.now c.is_some.ensures) _ c.in_ok-sign.ensures.cases c.len.ensures.value _ c.in-Bar.is c.bar.ensures.value)
+pub step-with-requires : goal.step-with-requires
+step-with-requires g t c = record { formed = subst (λ r. Formed r c.in_ok-sign.sign) c.is_some.ensures c.in_ok-sign.ensures.cases.formed; inner = inner _ c.in_default.not-Open c.in_default.not-Close c.in_default.not-End }
 
-pub step-returns-in-Plain-clause-cases : goal.step-returns-in-Plain-clause-cases
-step-returns-in-Plain-clause-cases g t c = rw c.skip-end.ensures.at (plain_of _ _ _ _ _ _ _ (keeps_waits g.T.Assembly.stands c.args.draft.now c.is_some.ensures) _ c.in_ok-sign.ensures.cases c.len.ensures.value _ c.in-Plain.is (λ b is. c.atom-in-Plain.ensures.value _ (subst (λ l. g.T.Assembly.stands c.byte.result (one (byte (get_or l 0 0)))) is c.byte.ensures.value)))
-
-pub step-returns-in-Escape-clause-cases : goal.step-returns-in-Escape-clause-cases
-step-returns-in-Escape-clause-cases g t c = rw c.skip-end.ensures.at (escape_of _ _ _ _ _ _ _ (keeps_waits g.T.Assembly.stands c.args.draft.now c.is_some.ensures) _ c.in_ok-sign.ensures.cases c.len.ensures.value _ c.in-Escape.is (λ b is. c.atom-in-Escape.ensures.value _ (subst (λ l. g.T.Assembly.stands c.byte-in-Escape.result (one (byte (get_or l 1 0)))) is c.byte-in-Escape.ensures.value)))
-
-pub step-returns-in-Any-clause-cases : goal.step-returns-in-Any-clause-cases
-step-returns-in-Any-clause-cases g t c = rw c.skip-end.ensures.at (any_of _ _ _ _ _ _ _ (keeps_waits g.T.Assembly.stands c.args.draft.now c.is_some.ensures) _ c.in_ok-sign.ensures.cases c.len.ensures.value _ c.in-Any.is (c.atom-in-Any.ensures.value _ c.any.ensures.value))
-
-pub step-returns-in-Star-clause-cases : goal.step-returns-in-Star-clause-cases
-step-returns-in-Star-clause-cases g t c = rw c.skip-end.ensures.at (star_of _ _ _ _ _ _ _ (keeps_waits g.T.Assembly.stands c.args.draft.now c.is_some.ensures) _ c.in_ok-sign.ensures.cases c.len.ensures.value _ c.in-Star.is (c.repeated.ensures.value _ (λ x y f met st. search rules)))
-
-pub step-returns-in-Plus-clause-cases : goal.step-returns-in-Plus-clause-cases
-step-returns-in-Plus-clause-cases g t c = rw c.skip-end.ensures.at (plus_of _ _ _ _ _ _ _ (keeps_waits g.T.Assembly.stands c.args.draft.now c.is_some.ensures) _ c.in_ok-sign.ensures.cases c.len.ensures.value _ c.in-Plus.is (c.repeated-in-Plus.ensures.value _ (λ x y f met st. search rules)))
-
-pub step-returns-in-Question-clause-cases : goal.step-returns-in-Question-clause-cases
-step-returns-in-Question-clause-cases g t c = rw c.skip-end.ensures.at (opt_of _ _ _ _ _ _ _ (keeps_waits g.T.Assembly.stands c.args.draft.now c.is_some.ensures) _ c.in_ok-sign.ensures.cases c.len.ensures.value _ c.in-Question.is (c.repeated-in-Question.ensures.value _ (λ x y f met st. search rules)))
-
-pub step-returns-in-Class-clause-cases : goal.step-returns-in-Class-clause-cases
-step-returns-in-Class-clause-cases g t c = rw c.skip-end.ensures.at (class_of _ _ _ _ _ _ _ (keeps_waits g.T.Assembly.stands c.args.draft.now c.is_some.ensures) _ c.in_ok-sign.ensures.cases c.len.ensures.value _ c.in-Class.is (λ rs ms some. c.atom-in-Class.ensures.value _ (c.class.ensures.value _ rs ms some (c.members-letters.ensures.value rs ms some))))
-
-pub step-pair-least-requires : goal.step-pair-least-requires
-step-pair-least-requires g t c = record { written = braced_of _ _ _ _ _ c.in_ok-sign.ensures.cases c.in-Counted.is }
-
-pub step-returns-in-Counted-clause-cases : goal.step-returns-in-Counted-clause-cases
-step-returns-in-Counted-clause-cases g t c = rw c.skip-end.ensures.at (counted_of _ _ _ _ _ _ _ (keeps_waits g.T.Assembly.stands c.args.draft.now c.is_some.ensures) _ c.in_ok-sign.ensures.cases c.len.ensures.value _ c.in-Counted.is _ _ c.pair-least.ensures.value (λ le. c.repeated-in-Counted.ensures.value _ (λ x y f met st. search rules)))
+pub step-returns-in_default-clause-cases : goal.step-returns-in_default-clause-cases
+step-returns-in_default-clause-cases g t c =
+    let handed = subst (λ r. Handed c.args.from.pattern.now c.args.from.at r c.in_ok-sign.sign) c.is_some.ensures c.in_ok-sign.ensures.cases in
+    rw c.skip.ensures.at (grown _ _ _ _ _ _ (keeps_waits g.T.Assembly.stands c.args.draft.now refl) _ _ handed c.len.ensures.value c.with.ensures.value)

@@ -1,5 +1,5 @@
 use Rattle.std.proofs.Common.{◌≡◌, ◌+◌, ◌-◌, ◌*◌, ◌≤◌, length}
-use Rattle.pattern.specs.Automaton.{ready, opened}
+use Rattle.notation.specs.Automaton.{ready, opened}
 use Rattle.pattern.specs.Drafts.{Keeps}
 use Rattle.pattern.specs.Walks.{Leads}
 use Rattle.pattern.proofs.reader.+alternatives_group_step.Given as goal

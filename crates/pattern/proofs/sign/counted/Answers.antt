@@ -1,6 +1,6 @@
 use Rattle.std.proofs.Common.{sym, refl, ◌∙◌, subst, arith}
 use Rattle.pattern.proofs.Exits.{handed_on}
-use Rattle.std.proofs.lemmas.Bool.{lt-leb, false≢true}
+use Rattle.std.proofs.lemmas.Bool.{lt-leb}
 use Rattle.pattern.specs.Signs.{SignRefused}
 use Rattle.pattern.proofs.Slices.{slice_part}
 use Rattle.pattern.proofs.SignWays.{count_stops, counted_is}
@@ -11,7 +11,7 @@ use Rattle.pattern.proofs.sign.counted.Goals as goal
 pub returns-then-not-after : goal.returns-then-not-after
 returns-then-not-after c =
     let (lt, is) = c.requires.brace in
-    record { cases = no_atom _ _ 123 lt is (λ fr d ctx. refl) _ _ c.if-not-after.true (λ w shaped. false≢true shaped.0) c.refuse.ensures.value }
+    record { cases = no_atom _ _ 123 lt is (λ fr d ctx. refl) _ _ c.if-not-after.true (λ w shaped. shaped.0) c.refuse.ensures.value }
 
 pub returns-in_err-end : goal.returns-in_err-end
 returns-in_err-end c =

@@ -1,6 +1,6 @@
 use Rattle.std.proofs.Common.{◌≡◌, ◌+◌, ◌<◌, false, length, get_or, sym, ap, ◌∙◌, arith}
 use Rattle.pattern.proofs.SignWays.{escape_stops}
-use Rattle.pattern.specs.Characters.{escapable}
+use Rattle.notation.specs.Characters.{escapable}
 use Rattle.pattern.proofs.Exits.{handed_on}
 use Rattle.pattern.proofs.SignShapes.{no_escape}
 use Rattle.pattern.proofs.sign.escape.Goals as goal

@@ -1,5 +1,5 @@
 use Rattle.std.proofs.Common.{subst}
-use Rattle.pattern.specs.Reading.{Readable}
+use Rattle.notation.specs.Reading.{Readable}
 use Rattle.pattern.proofs.record.Pattern.bytes.Goals as goal
 
 pub returns-clause-granted : goal.returns-clause-granted

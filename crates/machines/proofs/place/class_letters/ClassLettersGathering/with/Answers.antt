@@ -1,6 +1,6 @@
 use Rattle.std.proofs.Common.{[], ◌∷◌, ◌++◌, sym, subst}
 use Rattle.std.proofs.lemmas.Option.{MatchOption-at_none, MatchOption-at_some}
-use Rattle.pattern.specs.Expressions.{byte}
+use Rattle.notation.specs.Expressions.{byte}
 use Rattle.machines.specs.Place.ClassLetters.{LettersOfClass}
 use Rattle.machines.proofs.PlaceLemmas.ClassSymbols.{push_widens, first_widens, falling_none}
 use Rattle.machines.proofs.place.class_letters.ClassLettersGathering.with.Goals as goal

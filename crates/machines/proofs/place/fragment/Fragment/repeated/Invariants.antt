@@ -1,4 +1,4 @@
-use Rattle.pattern.specs.Expressions.{Regex}
+use Rattle.notation.specs.Expressions.{Regex}
 use Rattle.machines.specs.Place.Spellings.{copies}
 use Rattle.machines.specs.Place.Standing.{StandsFor}
 use Rattle.machines.proofs.place.fragment.Fragment.repeated.Given as goal

@@ -1,5 +1,5 @@
 use Rattle.std.proofs.Common.{inl, arith}
-use Rattle.pattern.specs.Expressions.{byte, any}
+use Rattle.notation.specs.Expressions.{byte, any}
 use Rattle.machines.proofs.PlaceLemmas.ClassSymbols.{any_widens}
 use Rattle.machines.proofs.place.fragment.FragmentAssembly.any.Goals as goal
 

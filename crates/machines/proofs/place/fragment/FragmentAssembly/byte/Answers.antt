@@ -1,5 +1,5 @@
 use Rattle.std.proofs.Common.{inl, arith}
-use Rattle.pattern.specs.Expressions.{byte}
+use Rattle.notation.specs.Expressions.{byte}
 use Rattle.machines.proofs.place.fragment.FragmentAssembly.byte.Goals as goal
 
 pub returns : goal.returns

@@ -1,5 +1,5 @@
 use Rattle.std.proofs.Common.{◌-◌, subst}
-use Rattle.pattern.specs.Expressions.{opt}
+use Rattle.notation.specs.Expressions.{opt}
 use Rattle.machines.specs.Place.Spellings.{copies}
 use Rattle.machines.specs.Place.Standing.{StandsFor}
 use Rattle.machines.proofs.PlaceLemmas.Copies.{counted_stands}

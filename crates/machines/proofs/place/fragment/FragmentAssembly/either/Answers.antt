@@ -1,5 +1,5 @@
 use Rattle.std.proofs.Common.{rules}
-use Rattle.pattern.specs.Expressions.{alt}
+use Rattle.notation.specs.Expressions.{alt}
 use Rattle.machines.proofs.PlaceLemmas.Parts.{either_combines}
 use Rattle.machines.proofs.place.fragment.FragmentAssembly.either.Goals as goal
 

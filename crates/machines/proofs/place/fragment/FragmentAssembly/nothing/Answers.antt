@@ -1,5 +1,5 @@
 use Rattle.std.proofs.Common.{arith}
-use Rattle.pattern.specs.Expressions.{empty}
+use Rattle.notation.specs.Expressions.{empty}
 use Rattle.machines.proofs.PlaceLemmas.Parts.{nothing_part}
 use Rattle.machines.proofs.place.fragment.FragmentAssembly.nothing.Goals as goal
 

@@ -1,5 +1,5 @@
 use Rattle.std.proofs.Common.{rules}
-use Rattle.pattern.specs.Expressions.{opt}
+use Rattle.notation.specs.Expressions.{opt}
 use Rattle.machines.proofs.PlaceLemmas.Parts.{optional_changes}
 use Rattle.machines.proofs.place.fragment.FragmentAssembly.optional.Goals as goal
 

@@ -1,4 +1,4 @@
-use Rattle.pattern.specs.Expressions.{star}
+use Rattle.notation.specs.Expressions.{star}
 use Rattle.machines.proofs.PlaceLemmas.Standing.{plus_stands}
 use Rattle.machines.proofs.place.fragment.FragmentAssembly.plus.Goals as goal
 

@@ -1,5 +1,5 @@
 use Rattle.std.proofs.Common.{rules}
-use Rattle.pattern.specs.Expressions.{star}
+use Rattle.notation.specs.Expressions.{star}
 use Rattle.machines.proofs.PlaceLemmas.Parts.{star_changes}
 use Rattle.machines.proofs.place.fragment.FragmentAssembly.star.Goals as goal
 

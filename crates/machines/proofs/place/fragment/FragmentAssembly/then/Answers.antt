@@ -1,5 +1,5 @@
 use Rattle.std.proofs.Common.{rules}
-use Rattle.pattern.specs.Expressions.{seq}
+use Rattle.notation.specs.Expressions.{seq}
 use Rattle.machines.proofs.PlaceLemmas.Parts.{then_combines}
 use Rattle.machines.proofs.place.fragment.FragmentAssembly.then.Goals as goal
 

@@ -1,0 +1,13 @@
+pub mod Chars
+pub mod Runs
+pub mod ClassRuns
+pub mod CountRuns
+pub mod Completes
+pub mod Seen
+pub mod ClassSeen
+pub mod CountSeen
+pub mod Steps
+pub mod Sounds
+pub mod Endings
+pub mod Faults
+pub mod Worked

@@ -1,0 +1,10 @@
+pub mod Expressions
+pub mod Places
+pub mod Meaning
+pub mod Characters
+pub mod Grammar
+pub mod Beginnings
+pub mod Automaton
+pub mod Refusals
+pub mod Reading
+pub mod Examples
