@@ -1,0 +1,35 @@
+// The three questions that a roll answers, and the line that says what it answered.
+use fault::Fault;
+use folding::fold::Judging;
+use folding::tally::Tally;
+use roll::{Lent, Roll};
+use std::fmt;
+
+#[derive(Clone, Copy)]
+pub(crate) struct Answers {
+    verdict: bool,
+    totals: Tally,
+    culprit: Option<usize>,
+}
+
+// Asking changes nothing, so the tables are lent to be read.
+pub(crate) fn ask<M: Judging>(roll: &Roll, lent: &Lent<M>) -> Result<Answers, Fault> {
+    Ok(Answers {
+        verdict: roll.verdict(lent)?,
+        totals: roll.totals(lent)?,
+        culprit: roll.culprit(lent)?,
+    })
+}
+
+impl fmt::Display for Answers {
+    fn fmt<W: fmt::Write>(&self, f: &mut fmt::Formatter<W>) -> fmt::Result {
+        let verdict = if self.verdict { "yes" } else { "no" };
+        let bytes = self.totals.bytes;
+        let lines = self.totals.lines;
+        write!(f, "{verdict}, {bytes} bytes, {lines} lines, ")?;
+        match self.culprit {
+            Some(slot) => write!(f, "lost at {slot}"),
+            None => f.write_str("not lost"),
+        }
+    }
+}
