@@ -1,19 +1,20 @@
 // The three questions that a roll answers, and the line that says what it answered.
+use crate::unexpected;
 use fault::Fault;
 use folding::fold::Judging;
 use folding::tally::Tally;
-use roll::{Lent, Roll};
+use roll::{Lent, LentMut, Roll};
 use std::fmt;
 
 #[derive(Clone, Copy)]
-pub(crate) struct Answers {
+struct Answers {
     verdict: bool,
     totals: Tally,
     culprit: Option<usize>,
 }
 
-// Asking changes nothing, so the tables are lent to be read.
-pub(crate) fn ask<M: Judging>(roll: &Roll, lent: &Lent<M>) -> Result<Answers, Fault> {
+// A question only reads, so it is lent the tables to be read. It may be put at any time.
+fn ask<M: Judging>(roll: &Roll, lent: &Lent<M>) -> Result<Answers, Fault> {
     Ok(Answers {
         verdict: roll.verdict(lent)?,
         totals: roll.totals(lent)?,
@@ -32,4 +33,15 @@ impl fmt::Display for Answers {
             None => f.write_str("not lost"),
         }
     }
+}
+
+pub(crate) fn tell<M: Judging>(
+    rt: &impl Print,
+    what: &str,
+    roll: &Roll,
+    lent: &LentMut<M>,
+) -> anyhow::Result<()> {
+    let answers = ask(roll, &lent.shared()).map_err(unexpected)?;
+    println!(rt; "{what}: {answers}")?;
+    Ok(())
 }

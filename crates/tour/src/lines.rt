@@ -1,5 +1,5 @@
 // A roll under the machine of one's own.
-use crate::answers::ask;
+use crate::answers::tell;
 use crate::few_lines::FewLines;
 use crate::filing::file;
 use crate::unexpected;
@@ -25,10 +25,7 @@ pub(crate) fn roll_of_few_lines(rt: &impl Print) -> anyhow::Result<()> {
     ] {
         file(&mut roll, &mut lent, slot, text).map_err(unexpected)?;
     }
-    let all = ask(&roll, &lent.shared()).map_err(unexpected)?;
-    println!(rt; "at most 3 lines: {all}")?;
+    tell(rt, "at most 3 lines", &roll, &lent)?;
     roll.withdraw(&mut lent, 1).map_err(unexpected)?;
-    let fewer = ask(&roll, &lent.shared()).map_err(unexpected)?;
-    println!(rt; "without slot 1: {fewer}")?;
-    Ok(())
+    tell(rt, "without slot 1", &roll, &lent)
 }

@@ -1,5 +1,5 @@
 // A roll of four slots under the machine of a pattern.
-use crate::answers::ask;
+use crate::answers::tell;
 use crate::filing::file;
 use crate::unexpected;
 use folding::fold::Folding;
@@ -24,17 +24,6 @@ pub(crate) fn roll_of_names(rt: &impl Print, machine: &PlaceMachine) -> anyhow::
     file_elsewhere(rt, &mut roll, &mut lent)
 }
 
-fn tell(
-    rt: &impl Print,
-    what: &str,
-    roll: &Roll,
-    lent: &LentMut<PlaceMachine>,
-) -> anyhow::Result<()> {
-    let answers = ask(roll, &lent.shared()).map_err(unexpected)?;
-    println!(rt; "{what}: {answers}")?;
-    Ok(())
-}
-
 // The strips come in any order, and slot 1 comes last. Until then it counts as the empty text, and
 // the roll sees `Bo` run on into `Dora`.
 fn file_four(
@@ -50,7 +39,7 @@ fn file_four(
         file(roll, lent, slot, text).map_err(unexpected)?;
     }
     tell(rt, "slot 1 is late", roll, lent)?;
-    // The strip has a fault of its own: a small letter where a name begins.
+    // This strip is wrong by itself: a small letter where a name begins.
     file(roll, lent, 1, b"b\ncarl\n").map_err(unexpected)?;
     tell(rt, "slot 1 is wrong", roll, lent)?;
     // Filing a slot anew puts the new strip in place of the old one.
@@ -67,8 +56,8 @@ fn withdraw_one(
     tell(rt, "slot 3 is withdrawn", roll, lent)
 }
 
-// A strip that is fed in pieces is the strip of the pieces joined. There is no slot 4: that filing
-// hands the strip back, and it goes into slot 3.
+// Fed in pieces, a strip is that of the pieces joined: the same as was withdrawn. There is no slot 4,
+// so the first filing hands the strip back, and it goes into slot 3.
 fn file_elsewhere(
     rt: &impl Print,
     roll: &mut Roll,
@@ -83,10 +72,8 @@ fn file_elsewhere(
         let tally = roll
             .file(lent, 3, returned.strip)
             .map_err(|again| unexpected(again.fault))?;
-        println!(rt;
-            "filed elsewhere: {} bytes, {} lines",
-            tally.bytes, tally.lines
-        )?;
+        let bytes = tally.bytes;
+        println!(rt; "slot 3 takes its {bytes} bytes")?;
     }
     tell(rt, "slot 3 is held again", roll, lent)
 }
