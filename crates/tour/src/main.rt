@@ -1,0 +1,29 @@
+// A tour of the library, step by step: a pattern, its machine, a roll, and a machine of one's own.
+// docs/library.md walks through these files in this order.
+#![tactic(auto)]
+
+use fault::Fault;
+use machines::build;
+
+mod answers;
+mod few_lines;
+mod filing;
+mod lines;
+mod names;
+mod reading;
+
+// A refusal that the tour does not expect ends the program with the fault's line.
+fn unexpected(fault: Fault) -> anyhow::Error {
+    anyhow::anyhow!("{fault}")
+}
+
+fn run(rt: &impl Print) -> anyhow::Result<()> {
+    let pattern = reading::read_names(rt)?;
+    let machine = build(&pattern);
+    names::roll_of_names(rt, &machine)?;
+    lines::roll_of_few_lines(rt)
+}
+
+fn main(rt: HostRuntime) -> anyhow::Result<()> {
+    run(&rt)
+}
