@@ -1,4 +1,4 @@
--- How a pattern is read byte by byte: an automaton with a stack. Only private functions cite it; what a pattern is says Grammar. Assumes nothing.
+-- How a pattern is read byte by byte: an automaton with a stack. Only the reader's private functions cite it; what a pattern is says Grammar. Assumes nothing.
 --
 --   Frame         an open pattern: its finished branches, and the branch so far
 --   Mode          between two atoms, after an atom that can still be repeated, or inside a sign

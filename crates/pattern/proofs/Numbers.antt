@@ -17,11 +17,13 @@ awaits_digit comma s no_digit = refl
 awaits_digit ended s no_digit = refl
 awaits_digit other s no_digit = refl
 
-begin_is : (b k : ℕ) (s : Stage) (r : Bool) → b ≡ 48 + k → k < 10 → count_can_begin (bound s) k ≡ r → count_next (count_kind b) (awaiting s) ≡ cond r (counting (digits s k)) no_count
-begin_is b k s r is small can = ap (λ t. count_next t (awaiting s)) (ap count_kind is ∙ digit_kind k small) ∙ ap (λ t. cond t (counting (digits s k)) no_count) can
+begin_is : (b k low : ℕ) (s : Stage) (r : Bool) → bound s ≡ low → b ≡ 48 + k → k < 10 → count_can_begin low k ≡ r → count_next (count_kind b) (awaiting s) ≡ cond r (counting (digits s k)) no_count
+begin_is b k low s r low_is is small can =
+    ap (λ t. count_next t (awaiting s)) (ap count_kind is ∙ digit_kind k small) ∙ ap (λ t. cond t (counting (digits s k)) no_count) (ap (λ m. count_can_begin m k) low_is ∙ can)
 
-go_on_is : (b n k : ℕ) (s : Stage) (r : Bool) → b ≡ 48 + k → k < 10 → count_can_go_on (bound s) n k ≡ r → count_next (count_kind b) (digits s n) ≡ cond r (counting (digits s (10 * n + k))) no_count
-go_on_is b n k s r is small can = ap (λ t. count_next t (digits s n)) (ap count_kind is ∙ digit_kind k small) ∙ ap (λ t. cond t (counting (digits s (10 * n + k))) no_count) can
+go_on_is : (b n k low : ℕ) (s : Stage) (r : Bool) → bound s ≡ low → b ≡ 48 + k → k < 10 → count_can_go_on low n k ≡ r → count_next (count_kind b) (digits s n) ≡ cond r (counting (digits s (10 * n + k))) no_count
+go_on_is b n k low s r low_is is small can =
+    ap (λ t. count_next t (digits s n)) (ap count_kind is ∙ digit_kind k small) ∙ ap (λ t. cond t (counting (digits s (10 * n + k))) no_count) (ap (λ m. count_can_go_on m n k) low_is ∙ can)
 
 module _ (p : List ℕ) (at low : ℕ) where
   pub no_digit : (f : Fault) → at ≤ length p → ((k : ℕ) → count_kind (get_or p at 0) ≡ digit k → at < length p → ⊥) → f ≡ refused BadlyWritten at → NumberRefused p at low f
@@ -36,7 +38,7 @@ module _ (p : List ℕ) (at low : ℕ) where
     is = is;
     stops = λ s low_is e fr d ctx.
         stopped p f at _ is (omega arith)
-        (stops_at p at _ (omega arith) refl (λ _. ap (λ n. of_count n e fr d ctx) (begin_is _ k s false byte small (ap (λ m. count_can_begin m k) low_is ∙ cannot))));
+        (stops_at p at _ (omega arith) refl (λ _. ap (λ n. of_count n e fr d ctx) (begin_is _ k low s false low_is byte small cannot)));
   }
 
   pub one_digit : (k : ℕ) → at < length p → k < 10 → get_or p at 0 ≡ 48 + k → count_can_begin low k ≡ true
@@ -47,7 +49,7 @@ module _ (p : List ℕ) (at low : ℕ) where
     text = drop_is p at _ lt byte ∙ ap (λ l. l ++ drop (at + 1) p) (sym (decimal_digit k small));
     small = omega arith;
     stuck = stuck;
-    runs = λ s low_is e fr d ctx. moves p at _ _ _ lt refl (ap (λ n. of_count n e fr d ctx) (begin_is _ k s true byte small (ap (λ m. count_can_begin m k) low_is ∙ can)));
+    runs = λ s low_is e fr d ctx. moves p at _ _ _ lt refl (ap (λ n. of_count n e fr d ctx) (begin_is _ k low s true low_is byte small can));
   }
 
   pub two_digits : (j k : ℕ) → at + 1 < length p → j < 10 → k < 10 → get_or p at 0 ≡ 48 + j → get_or p (at + 1) 0 ≡ 48 + k → count_can_begin low j ≡ true → count_can_go_on low j k ≡ true → NumberRead p at low (10 * j + k) (at + 1 + 1)
@@ -65,8 +67,8 @@ module _ (p : List ℕ) (at low : ℕ) where
         small = top;
         stuck = λ n _ _. and_right (leb 1 (10 * j + k)) _ (and_right (leb low (10 * (10 * j + k) + n)) _ (lt-leb (10 * (10 * j + k) + n) 32 (omega arith)));
         runs = λ s low_is e fr d ctx.
-            moves p at _ _ (state (in_count e (digits s j)) fr d ctx) (omega arith) refl (ap (λ n. of_count n e fr d ctx) (begin_is _ j s true one small (ap (λ m. count_can_begin m j) low_is ∙ can)))
-            ∙ moves p (at + 1) _ _ (state (in_count e (digits s (10 * j + k))) fr d ctx) lt refl (ap (λ n. of_count n e fr d ctx) (go_on_is _ j k s true two last (ap (λ m. count_can_go_on m j k) low_is ∙ on)));
+            moves p at _ _ (state (in_count e (digits s j)) fr d ctx) (omega arith) refl (ap (λ n. of_count n e fr d ctx) (begin_is _ j low s true low_is one small can))
+            ∙ moves p (at + 1) _ _ (state (in_count e (digits s (10 * j + k))) fr d ctx) lt refl (ap (λ n. of_count n e fr d ctx) (go_on_is _ j k low s true low_is two last on));
       }
 
 -- the one digit that stands there is the one that was tried

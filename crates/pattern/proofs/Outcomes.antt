@@ -19,10 +19,13 @@ use Rattle.notation.proofs.Sounds.{Bytes, sound}
 use Rattle.notation.proofs.Completes.{one_reading}
 use Rattle.notation.proofs.Faults.{longest, not_written}
 
-pub bytes_slice : (p : List ℕ) → ((i : ℕ) → Fits w8 (get_or p i 0)) → Bytes p
+bytes_slice : (p : List ℕ) → ((i : ℕ) → Fits w8 (get_or p i 0)) → Bytes p
 bytes_slice p fits = All-from_get_or (λ b. b < 256) p 0 (λ i _. (fits i).fits)
 
-module _ (p : List ℕ) (bytes : Bytes p) (short : length p ≤ 256) where
+module _ (p : List ℕ) (fits : (i : ℕ) → Fits w8 (get_or p i 0)) (short : length p ≤ 256) where
+  bytes : Bytes p
+  bytes = bytes_slice p fits
+
   stopped_bad : (f : Fault) → Stops p f (outcome_of start p) → Bad p f
   stopped_bad f stop =
       let within = stop.within in

@@ -3,6 +3,7 @@
 --   Steps p at d K end K'    from `at` to `end` stands one sign or group; K was kept before it, and K' is after it
 --   GroupRead p at d end E   from `at` to `end` stands a group whose expression satisfies E
 --   AlternativesRead         the same of what stands between parentheses, up to the closing one or the end
+--   Stepped, GroupOf, AlternativesOf   what is answered, of the cursor that the reader begins at
 use Rattle.std.specs.Prelude.{◌≡◌, ℕ, ◌<◌, ◌≤◌, List, length, drop, slice_index, Option, MatchOption}
 use Rattle.fault.specs.declared.Fault.{Fault}
 use Rattle.pattern.specs.declared.cursor.Cursor.{Cursor}
@@ -54,3 +55,9 @@ pub record AlternativesRead (p : List ℕ) (from d end : ℕ) (E : Regex → Typ
 
 abbrev pub AlternativesStop : List ℕ → ℕ → ℕ → Fault → Type 0
 AlternativesStop p from d f = (ctx : List Frame) → Stops p f (outcome_of (state ready opened d ctx) (drop from p))
+
+abbrev pub GroupOf : {T : Type 0} → (T → Regex → Type 0) → Cursor → ℕ → Cursor × T → Type 0
+GroupOf S from d o = GroupRead from.pattern.now from.at d o.0.at (S o.1)
+
+abbrev pub AlternativesOf : {T : Type 0} → (T → Regex → Type 0) → Cursor → ℕ → Cursor × T → Type 0
+AlternativesOf S from d o = AlternativesRead from.pattern.now from.at d o.0.at (S o.1)

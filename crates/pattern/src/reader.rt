@@ -4,7 +4,7 @@
 ghost use Rattle.std.specs.Prelude.{IfOk, IfSome, MatchResult};
 ghost use Rattle.pattern.specs.Cursors.{OnePattern, Stands};
 ghost use Rattle.pattern.specs.Drafts.{Keeps};
-ghost use Rattle.pattern.specs.Walks.{Stepped, StepStops, GroupRead, GroupStops, AlternativesRead, AlternativesStop};
+ghost use Rattle.pattern.specs.Walks.{Stepped, StepStops, GroupOf, GroupStops, AlternativesOf, AlternativesStop};
 
 use crate::assembly::Assembly;
 use crate::cursor::Cursor;
@@ -15,7 +15,7 @@ use fault::Fault;
 #[cycle(alternatives_group_step)]
 fn group<T: Assembly>(from: Cursor, depth: u8) -> Result<(Cursor, T), Fault>
     requires paren { Stands from 40 }
-    ensures cases { MatchResult result (λ o. GroupRead from.entry.pattern.now from.entry.at depth o.0.at (T.Assembly.stands o.1)) (λ f. GroupStops from.entry.pattern.now from.entry.at depth f) }
+    ensures cases { MatchResult result (GroupOf T.Assembly.stands from.entry depth) (GroupStops from.entry.pattern.now from.entry.at depth) }
     ensures same { IfOk result (λ o. OnePattern from.entry o.0) }
 {
     if depth == 0 {
@@ -51,7 +51,7 @@ fn step<'a, T: Assembly>(
 // Where the alternatives that begin at `from` end, and what they were put together as.
 #[cycle(alternatives_group_step)]
 pub(crate) fn alternatives<T: Assembly>(from: Cursor, depth: u8) -> Result<(Cursor, T), Fault>
-    ensures cases { MatchResult result (λ o. AlternativesRead from.entry.pattern.now from.entry.at depth o.0.at (T.Assembly.stands o.1)) (AlternativesStop from.entry.pattern.now from.entry.at depth) }
+    ensures cases { MatchResult result (AlternativesOf T.Assembly.stands from.entry depth) (AlternativesStop from.entry.pattern.now from.entry.at depth) }
     ensures same { IfOk result (λ o. OnePattern from.entry o.0) }
 {
     let mut here = from;
