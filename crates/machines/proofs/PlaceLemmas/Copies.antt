@@ -1,4 +1,4 @@
--- A counted repeat as copies in a series: so many that must be there, and then some that may. Assumes nothing.
+-- A counted repeat as copies, one after the other: so many that must be there, and then some that may. Assumes nothing.
 use Rattle.std.proofs.Common.{◌≡◌, ℕ, Option, zero, suc, ◌+◌, ◌-◌, ◌*◌, ◌≤◌, sym, refl, ap, ◌∙◌, suc-mul, add-mul, zero-mul, arith}
 use Rattle.notation.specs.Expressions.{Expr, seq, opt, counted, Regex}
 use Rattle.notation.specs.Places.{places}

@@ -1,4 +1,4 @@
--- Tables that represent a language over places, and those of two languages joined. Assumes nothing.
+-- Tables that represent a language over places. Assumes nothing.
 use Rattle.std.proofs.Common.{ℕ, ◌<◌, ◌≤◌, ◌↔◌, List, [], ◌∷◌}
 use Rattle.notation.specs.Expressions.{Regex, Symbol, Takes}
 use Rattle.notation.specs.Meaning.{Lang}

@@ -1,7 +1,7 @@
 -- The bytes that one place takes, as rows of masks. Assumes nothing.
 --
---   LettersOf s takes   row c has place 1 exactly if the symbol s takes the byte c, and no other place
---   SomeLetters takes   the rows are those of some symbol that takes a byte
+--   LettersOf s takes      row c has place 1 exactly if the symbol s takes the byte c, and no other place
+--   SomeLetters takes      the rows are those of some symbol that takes a byte
 --   Widens s low high s'   s' takes what s takes, and the bytes from `low` to `high`
 use Rattle.std.specs.Prelude.{◌≡◌, ℕ, ◌<◌, ◌≤◌, ◌⊎◌, ◌↔◌, List, slice_index}
 use Rattle.notation.specs.Expressions.{Symbol, Takes}

@@ -1,6 +1,6 @@
 -- What an operation on tables makes of the parts whose tables they are. Assumes nothing.
 --
---   Changes make by   of the tables of e it makes those of `make e`, a part with as many places as e
+--   Changes make by    of the tables of e it makes those of `make e`, a part with as many places as e
 --   Combines make by   of the tables of e and those of f, f's places moved behind e's, it makes those of `make e f`, a part with
 --                      the places of both
 --   ChangesSome by, CombinesSome by   it does so for some `make`
