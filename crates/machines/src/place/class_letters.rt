@@ -1,4 +1,4 @@
-// The bytes of a class while its members are image.
+// The bytes of a class while its members are read.
 ghost use Rattle.machines.specs.Place.ClassLetters.{LettersOfClass};
 
 use crate::place::letters::Letters;
