@@ -1,4 +1,4 @@
--- What an operation on tables makes of the parts whose tables they are. Assumes nothing.
+-- What an operation on tables makes of the parts whose tables they are. Only private functions cite it. Assumes nothing.
 --
 --   Changes make by    of the tables of e it makes those of `make e`, a part with as many places as e
 --   Combines make by   of the tables of e and those of f, f's places moved behind e's, it makes those of `make e f`, a part with

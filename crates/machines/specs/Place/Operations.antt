@@ -1,4 +1,4 @@
--- The tables of an expression from those of its parts: the laws of first, last and follow sets, by members. Assumes nothing.
+-- The tables of an expression from those of its parts: the laws of first, last and follow sets, by members. Only private functions cite it. Assumes nothing.
 --
 --   followers t q      row q of `follow`: the places that come after the state q
 --   takers t c         row c of `takes`: the places that take the byte c
