@@ -5,6 +5,7 @@ ghost use Rattle.std.specs.Prelude.{◌≡◌, Some};
 ghost use Rattle.fault.specs.Numbers.{number};
 ghost use Rattle.fault.specs.Lines.{word, line};
 
+use std::error::Error;
 use std::fmt;
 
 // The eleven refusals, each with its number; docs/refusals.md says when each is given.
@@ -90,3 +91,6 @@ impl fmt::Display for Fault {
         write!(f, "refused {number} layer {layer} place {place}")
     }
 }
+
+// So that `?` carries a fault up into any error of a program.
+impl Error for Fault {}

@@ -1,5 +1,4 @@
 // The three questions that a roll answers, and the line that says what it answered.
-use crate::unexpected;
 use fault::Fault;
 use folding::fold::Judging;
 use folding::tally::Tally;
@@ -41,7 +40,7 @@ pub(crate) fn tell<M: Judging>(
     roll: &Roll,
     lent: &LentMut<M>,
 ) -> anyhow::Result<()> {
-    let answers = ask(roll, &lent.shared()).map_err(unexpected)?;
+    let answers = ask(roll, &lent.shared())?;
     println!(rt; "{what}: {answers}")?;
     Ok(())
 }

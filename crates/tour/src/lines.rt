@@ -2,7 +2,6 @@
 use crate::answers::tell;
 use crate::few_lines::FewLines;
 use crate::filing::file;
-use crate::unexpected;
 use folding::fold::Folding;
 use folding::tally::Tallying;
 use roll::{LentMut, Roll};
@@ -16,16 +15,16 @@ pub(crate) fn roll_of_few_lines(rt: &impl Print) -> anyhow::Result<()> {
         tallies: &mut [Tallying.empty(); 8],
     };
     let mut roll = Roll::new::<FewLines, FewLines>();
-    roll.open(&mut lent, 4).map_err(unexpected)?;
+    roll.open(&mut lent, 4)?;
     for (slot, text) in [
         (0, b"Ada\nBo".as_slice()),
         (1, b"b\nCarl\n".as_slice()),
         (2, b"Dora\n".as_slice()),
         (3, b"Eve\n".as_slice()),
     ] {
-        file(&mut roll, &mut lent, slot, text).map_err(unexpected)?;
+        file(&mut roll, &mut lent, slot, text)?;
     }
     tell(rt, "at most 3 lines", &roll, &lent)?;
-    roll.withdraw(&mut lent, 1).map_err(unexpected)?;
+    roll.withdraw(&mut lent, 1)?;
     tell(rt, "without slot 1", &roll, &lent)
 }

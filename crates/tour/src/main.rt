@@ -2,7 +2,6 @@
 // docs/library.md walks through these files in this order.
 #![tactic(auto)]
 
-use fault::Fault;
 use machines::build;
 
 mod answers;
@@ -11,11 +10,6 @@ mod filing;
 mod lines;
 mod names;
 mod reading;
-
-// A refusal that the tour does not expect ends the program with the fault's line.
-fn unexpected(fault: Fault) -> anyhow::Error {
-    anyhow::anyhow!("{fault}")
-}
 
 fn run(rt: &impl Print) -> anyhow::Result<()> {
     let pattern = reading::read_names(rt)?;

@@ -1,7 +1,6 @@
 // A roll of four slots under the machine of a pattern.
 use crate::answers::tell;
 use crate::filing::file;
-use crate::unexpected;
 use folding::fold::Folding;
 use folding::tally::Tallying;
 use machines::PlaceMachine;
@@ -17,7 +16,7 @@ pub(crate) fn roll_of_names(rt: &impl Print, machine: &PlaceMachine) -> anyhow::
         tallies: &mut [Tallying.empty(); 8],
     };
     let mut roll = Roll::new::<PlaceMachine, PlaceMachine>();
-    roll.open(&mut lent, 4).map_err(unexpected)?;
+    roll.open(&mut lent, 4)?;
     tell(rt, "opened", &roll, &lent)?;
     file_four(rt, &mut roll, &mut lent)?;
     withdraw_one(rt, &mut roll, &mut lent)?;
@@ -36,14 +35,14 @@ fn file_four(
         (0, b"Ada\nBo".as_slice()),
         (3, b"Eve\n".as_slice()),
     ] {
-        file(roll, lent, slot, text).map_err(unexpected)?;
+        file(roll, lent, slot, text)?;
     }
     tell(rt, "slot 1 is late", roll, lent)?;
     // This strip is wrong by itself: a small letter where a name begins.
-    file(roll, lent, 1, b"b\ncarl\n").map_err(unexpected)?;
+    file(roll, lent, 1, b"b\ncarl\n")?;
     tell(rt, "slot 1 is wrong", roll, lent)?;
     // Filing a slot anew puts the new strip in place of the old one.
-    file(roll, lent, 1, b"b\nCarl\n").map_err(unexpected)?;
+    file(roll, lent, 1, b"b\nCarl\n")?;
     tell(rt, "slot 1 is corrected", roll, lent)
 }
 
@@ -52,7 +51,7 @@ fn withdraw_one(
     roll: &mut Roll,
     lent: &mut LentMut<PlaceMachine>,
 ) -> anyhow::Result<()> {
-    roll.withdraw(lent, 3).map_err(unexpected)?;
+    roll.withdraw(lent, 3)?;
     tell(rt, "slot 3 is withdrawn", roll, lent)
 }
 
@@ -64,14 +63,14 @@ fn file_elsewhere(
     lent: &mut LentMut<PlaceMachine>,
 ) -> anyhow::Result<()> {
     let mut strip = begin(lent.machine);
-    let first = feed(lent.machine, &mut strip, b"Ev").map_err(unexpected)?;
-    let fed = feed(lent.machine, &mut strip, b"e\n").map_err(unexpected)?;
+    let first = feed(lent.machine, &mut strip, b"Ev")?;
+    let fed = feed(lent.machine, &mut strip, b"e\n")?;
     println!(rt; "fed {first} bytes, then there were {fed}")?;
     if let Err(returned) = roll.file(lent, 4, strip) {
         println!(rt; "{}", returned.fault)?;
         let tally = roll
             .file(lent, 3, returned.strip)
-            .map_err(|again| unexpected(again.fault))?;
+            .map_err(|again| again.fault)?;
         let bytes = tally.bytes;
         println!(rt; "slot 3 takes its {bytes} bytes")?;
     }

@@ -1,5 +1,4 @@
 // Reading a pattern.
-use crate::unexpected;
 use pattern::Pattern;
 
 // Names, each on a line of its own: a capital letter, small letters, a line end.
@@ -16,7 +15,7 @@ pub(crate) fn read_names(rt: &impl Print) -> anyhow::Result<Pattern> {
     if let Err(fault) = pattern.read(SLIP) {
         println!(rt; "{fault}")?;
     }
-    let places = pattern.read(NAMES).map_err(unexpected)?;
+    let places = pattern.read(NAMES)?;
     println!(rt; "read, with {places} places")?;
     Ok(pattern)
 }
