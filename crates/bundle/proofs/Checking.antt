@@ -1,12 +1,10 @@
 -- What a bundle's pattern and strips come to, once the pattern is read or refused. Assumes nothing.
-use Rattle.std.proofs.Common.{◌≡◌, ℕ, ◌↔◌, List, Err, Result, sym, ◌∙◌, subst, inl, inr}
+use Rattle.std.proofs.Common.{◌≡◌, ℕ, List, Err, Result, sym, ◌∙◌, subst, inl, inr}
 use Rattle.std.specs.List.{AllByRecursion}
 use Rattle.fault.specs.declared.Fault.{Fault}
-use Rattle.folding.specs.Texts.{Bytes}
-use Rattle.notation.specs.Expressions.{Regex}
-use Rattle.notation.specs.Grammar.{Written, deepest}
 use Rattle.notation.specs.Meaning.{Matches}
 use Rattle.notation.specs.Reading.{ReadAs, Granted, Refused}
+use Rattle.law.specs.Whole.{MeansPattern}
 use Rattle.bundle.specs.Checks.{Checked}
 use Rattle.bundle.specs.Layout.{Piece, OfBytes}
 use Rattle.bundle.specs.Outcome.{opened, filed, Reported}
@@ -18,7 +16,7 @@ pub read_refused : (p q : List ℕ) (ss : List Piece) (r : Result Report Fault) 
 read_refused p q ss r f g same refused is e = inl (f, subst (λ x. Refused x f) same refused, is ∙ (λ i. Err (e i)))
 
 -- `held` is what the record holds, and `ts` the strips that were filed
-pub read_granted : (p q held : List ℕ) (n : ℕ) (ss ts : List Piece) (r : Result Report Fault) (M : List ℕ → Type 0) → q ≡ p → Granted q n → held ≡ q → ((e : Regex) → Written deepest held e → (w : List ℕ) → Bytes w → M w ↔ Matches e w) → ts ≡ ss → AllByRecursion OfBytes ss → Reported M (filed opened ts) r → Checked p ss r
+pub read_granted : (p q held : List ℕ) (n : ℕ) (ss ts : List Piece) (r : Result Report Fault) (M : List ℕ → Type 0) → q ≡ p → Granted q n → held ≡ q → MeansPattern held M → ts ≡ ss → AllByRecursion OfBytes ss → Reported M (filed opened ts) r → Checked p ss r
 read_granted p q held n ss ts r M same (e, read, _) holds means filing of report =
-    let exactly = means e (subst (λ x. Written deepest x e) (sym holds) read.written) in
+    let exactly = means e (subst (λ x. ReadAs x e) (sym holds) read) in
     inr (e, subst (λ x. ReadAs x e) same read, reported_same M (Matches e) exactly ss r of (subst (λ x. Reported M (filed opened x) r) filing report))

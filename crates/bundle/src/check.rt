@@ -8,7 +8,8 @@ use crate::report::Report;
 use fault::Fault;
 use folding::fold::Folding;
 use folding::tally::Tallying;
-use machines::build;
+use law::machine_of;
+use machines::PlaceMachine;
 use pattern::Pattern;
 use roll::LentMut;
 use std::alloc::{AllocError, Global};
@@ -22,7 +23,7 @@ pub fn check(input: &[u8]) -> Result<Report, Fault>
     let bundle = Bundle::decode(input)?;
     let mut pattern = Pattern::new();
     pattern.read(bundle.pattern())?;
-    let machine = build(&pattern);
+    let machine = machine_of::<PlaceMachine>(&pattern);
     let mut legs = [machine.empty(); CELLS];
     let mut tallies = [Tallying.empty(); CELLS];
     let mut lent = LentMut {

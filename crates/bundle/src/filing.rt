@@ -7,7 +7,6 @@ use crate::report::Report;
 use crate::walk::{Strip, Strips};
 use fault::Fault;
 use folding::fold::Judging;
-use law::new_roll;
 use roll::{LentMut, Roll, feeding};
 
 const SLOTS: usize = 128;
@@ -45,7 +44,7 @@ pub fn report<M: Judging>(lent: &mut LentMut<M>, strips: Strips) -> Result<Repor
         lent.old (left strips.entry) lent.new result }
     ensures lent { StillLent lent.old lent.new }
 {
-    let mut roll = new_roll::<M, M>();
+    let mut roll = Roll::new::<M, M>();
     roll.open(lent, SLOTS)?;
     file_all(&mut roll, lent, strips)?;
     let lent = lent.shared();

@@ -1,22 +1,19 @@
-// Where patterns, machines and rolls meet: a roll is made, and the whole law stands with it.
+// Where patterns, machines and rolls meet: the machine of a pattern, and the whole law with it.
 #![tactic(auto)]
 
-ghost use Rattle.std.specs.Prelude.{[]};
-ghost use Rattle.roll.specs.Runs.{Run};
-ghost use Rattle.roll.specs.Stands.{state};
-ghost use Rattle.roll.specs.Steps.{AsMade};
 ghost use Rattle.law.specs.Whole.{Whole};
 
-use folding::fold::Judging;
-use roll::Roll;
+use folding::fold::{Folding, Judging};
+use machines::PlaceMachine;
+use pattern::Pattern;
 
-// A roll with no slots. `whole` is what the library is for: it speaks of every run of a roll under a
-// machine of kind M, beside every run of another under a machine of kind O (which may be the same
-// kind), and of each machine that is built from a pattern.
-pub fn new_roll<M: Judging, O: Judging>() -> Roll
-    ensures made { AsMade result }
-    ensures begins { (m : M) → Run (M.Folding.leg m) (M.Judging.means m) (state result [] []) [] }
-    ensures whole { (m : M) (o : O) → Whole (M.Folding.leg m) (M.Judging.means m) (O.Folding.leg o) (O.Judging.means o) }
+// The place machine of a pattern that was read. `whole` is what the library is for: it speaks of this
+// machine, of every run of a roll under it, and of any run of another roll, under a machine of kind O
+// (which may be the same kind).
+pub fn machine_of<O: Judging>(pattern: &Pattern) -> PlaceMachine
+    ensures whole { (o : O)
+        → Whole pattern.now (⟦<PlaceMachine as Folding>⟧.leg result) (⟦<PlaceMachine as Judging>⟧.means result)
+        (O.Folding.leg o) (O.Judging.means o) }
 {
-    Roll::new::<M, O>()
+    machines::build(pattern)
 }

@@ -8,10 +8,10 @@ ghost use Rattle.machines.specs.Place.Shown.Machine.{made_inhabited};
 
 // Its tables, what stands for a byte, a class or a part of a pattern, and the build of the whole.
 pub mod build;
-pub mod class_letters;
-pub mod fragment;
-pub mod letters;
-pub mod tables;
+mod class_letters;
+mod fragment;
+mod letters;
+mod tables;
 
 use crate::place::fragment::Numbered;
 use crate::place::tables::Tables;

@@ -13,7 +13,7 @@ use Rattle.folding.proofs.Texts.{bytes_append, bytes_together}
 use Rattle.folding.proofs.Trees.{together_append}
 use Rattle.roll.specs.Calls.{Answer, judged, tallied, named, refused, Gives, Answers}
 use Rattle.roll.specs.Histories.{plain}
-use Rattle.roll.specs.Law.{Newest, Law}
+use Rattle.roll.specs.Law.{Same, Newest, Alike, Law}
 use Rattle.roll.specs.Plain.{Plain, texts, whole, marks}
 use Rattle.roll.specs.Refusals.{Call, verdict, totals, culprit, refusal}
 use Rattle.roll.specs.Runs.{Event}
@@ -86,21 +86,26 @@ module _ (M : List ℕ → Type 0) (some : Hopeful M []) (ts : List (List ℕ)) 
   pub none_exactly : (c : Option ℕ) → FirstLost M ts c → (c ≡ None → Hopeful M (together ts)) × (Hopeful M (together ts) → c ≡ None)
   none_exactly c first = (λ e. none_hopeful (length ts) refl (subst (FirstLost M ts) e first), hopeful_none c first)
 
+alike : {L K : Type 0} (leg : List ℕ → L) (M : List ℕ → Type 0) (leg' : List ℕ → K) (M' : List ℕ → Type 0) → Same M M' → Alike leg M leg' M'
+alike leg M leg' M' same = record {
+  follows = λ s s' h h' g g' run run' left asks.
+      let here = traced leg M run in
+      (following M M' same g g' h h' here.right (traced leg' M' run').right here.bytes left asks).0;
+  verdicts = λ h h' b b' n n' e.
+      let sets = same (whole (plain h)) (whole_bytes leg M h verdict (judged b) refl n) in
+      same_from_decides b b' (verdict_is leg M h b n)
+      (Decides-like b' sets.1 sets.0 (subst (λ w. Decides b' (M' w)) (sym e) (verdict_is leg' M' h' b' n')));
+}
+
 pub lawful : {L K : Type 0} (leg : List ℕ → L) (M : List ℕ → Type 0) (leg' : List ℕ → K) (M' : List ℕ → Type 0) → Hopeful M [] → Law leg M leg' M'
 lawful leg M leg' M' some = record {
   answers = λ s h run. (traced leg M run).right;
   stands = λ s h run. (traced leg M run).stands;
   unchanged = λ s lent is c a turned. turned_same leg M turned;
-  follows = λ s s' h h' g g' run run' same left asks.
-      let here = traced leg M run in
-      (following M M' same g g' h h' here.right (traced leg' M' run').right here.bytes left asks).0;
+  alike = alike leg M leg' M';
   refusals = λ r h met. meeting met;
   verdict = verdict_is leg M;
   totals = totals_are leg M;
-  verdicts = λ h h' b b' n n' same e.
-      let sets = same (whole (plain h)) (whole_bytes leg M h verdict (judged b) refl n) in
-      same_from_decides b b' (verdict_is leg M h b n)
-      (Decides-like b' sets.1 sets.0 (subst (λ w. Decides b' (M' w)) (sym e) (verdict_is leg' M' h' b' n')));
   sums = λ h h' t t' n n' e. totals_are leg M h t n ∙ ap tally e ∙ sym (totals_are leg' M' h' t' n');
   culprit = culprit_is leg M;
   none = λ h c n. none_exactly M some (texts (plain h)) (newest leg M h culprit (named c) refl n).1 c (culprit_is leg M h c n);

@@ -2,7 +2,7 @@
 --
 --   with r l           the roll and the cells that a call may write
 --   before r l         the roll and the cells that a question reads
---   StillLent was is   the same machine, and the same two tables, as long as they were
+--   StillLent was is   the same machine, and the same two tables, of unchanged length
 --   OpensWith, FilesWith, WithdrawsWith, AsksWith
 --                      what a call does (Steps.antt) to a roll and to the cells that it is lent, under the machine that it is lent; of each
 --                      machine of the kind X, `leg` is the leg function and M the set

@@ -15,5 +15,5 @@ returns c =
     let bundle = c.in_ok-bundle.ensures.cases in
     let read = c.in_ok-read.ensures.cases in
     record {
-      outcome = inr (bundle.0, (_, _, bundle.1, read_granted _ _ _ _ _ _ _ _ c.pattern.ensures.value read.0 read.1 (λ e written. (c.build-machine.ensures.built e written).means) c.strips.ensures.value c.in_ok-bundle.ensures.bytes.1 c.report.ensures.reported));
+      outcome = inr (bundle.0, (_, _, bundle.1, read_granted _ _ _ _ _ _ _ _ c.pattern.ensures.value read.0 read.1 (c.machine_of-machine.ensures.whole c.machine_of-machine.result).means c.strips.ensures.value c.in_ok-bundle.ensures.bytes.1 c.report.ensures.reported));
     }

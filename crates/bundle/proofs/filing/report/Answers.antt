@@ -38,8 +38,8 @@ returns-in_err-open g c =
     let m = c.args.lent.now.machine.now in
     let lent = c.args.lent.now in
     let fault = err_from_is_err_and c.from_residual.result c.from_residual.ensures.1 in
-    let ran = not_opened _ _ c.new_roll-roll.result lent.legs.now lent.tallies.now (left c.args.strips) (c.new_roll-roll.ensures.begins m) _ _ _ _ fault.1 fault.2 c.in_err-open.ensures.opens in
-    record { reported = ran_reported _ _ (c.new_roll-roll.ensures.whole m m).law _ _ _ _ _ _ ran; ran = ran; lent = c.open.ensures.lent }
+    let ran = not_opened _ _ c.new-roll.result lent.legs.now lent.tallies.now (left c.args.strips) (c.new-roll.ensures.begins m) _ _ _ _ fault.1 fault.2 c.in_err-open.ensures.opens in
+    record { reported = ran_reported _ _ (c.new-roll.ensures.law m m) _ _ _ _ _ _ ran; ran = ran; lent = c.open.ensures.lent }
 
 pub returns-in_err-file_all : goal.returns-in_err-file_all
 returns-in_err-file_all g c =
@@ -48,8 +48,8 @@ returns-in_err-file_all g c =
     let kept = c.open.ensures.lent in
     let fault = err_from_is_err_and c.from_residual-in_err-file_all.result c.from_residual-in_err-file_all.ensures.1 in
     let at = goal.at.returns-in_err-file_all g c in
-    let ran = not_filed _ _ c.new_roll-roll.result lent.legs.now lent.tallies.now (left c.args.strips) (c.new_roll-roll.ensures.begins m) _ c.in_ok-open.ensures.opens kept.leg_count kept.tally_count (left_in g at.After-file_all) _ _ _ fault.1 fault.2 (filing g at.After-file_all _ c.in_err-file_all.was) in
-    record { reported = ran_reported _ _ (c.new_roll-roll.ensures.whole m m).law _ _ _ _ _ _ ran; ran = ran; lent = still_lent kept c.file_all.ensures.lent }
+    let ran = not_filed _ _ c.new-roll.result lent.legs.now lent.tallies.now (left c.args.strips) (c.new-roll.ensures.begins m) _ c.in_ok-open.ensures.opens kept.leg_count kept.tally_count (left_in g at.After-file_all) _ _ _ fault.1 fault.2 (filing g at.After-file_all _ c.in_err-file_all.was) in
+    record { reported = ran_reported _ _ (c.new-roll.ensures.law m m) _ _ _ _ _ _ ran; ran = ran; lent = still_lent kept c.file_all.ensures.lent }
 
 pub returns-in_err-verdict : goal.returns-in_err-verdict
 returns-in_err-verdict g c =
@@ -57,7 +57,7 @@ returns-in_err-verdict g c =
     let lent = c.args.lent.now in
     let kept = c.open.ensures.lent in
     let at = goal.at.returns-in_err-verdict g c in
-    absurd (not_refused _ _ c.new_roll-roll.result lent.legs.now lent.tallies.now (left c.args.strips) (c.new_roll-roll.ensures.begins m) _ c.in_ok-open.ensures.opens kept.leg_count kept.tally_count (left_in g at.After-file_all) (filing g at.After-file_all _ c.in_ok-file_all.was) (c.new_roll-roll.ensures.whole m m).law _ (asked g at.After-shared-lent verdict (refused c.in_err-verdict.field-0.0) c.in_err-verdict.ensures.does))
+    absurd (not_refused _ _ c.new-roll.result lent.legs.now lent.tallies.now (left c.args.strips) (c.new-roll.ensures.begins m) _ c.in_ok-open.ensures.opens kept.leg_count kept.tally_count (left_in g at.After-file_all) (filing g at.After-file_all _ c.in_ok-file_all.was) (c.new-roll.ensures.law m m) _ (asked g at.After-shared-lent verdict (refused c.in_err-verdict.field-0.0) c.in_err-verdict.ensures.does))
 
 pub returns : goal.returns
 returns g c =
@@ -67,5 +67,5 @@ returns g c =
     let more = c.file_all.ensures.lent in
     let at = goal.at.returns g c in
     let ask = asked g at.After-shared-lent in
-    let ran = all_answered _ _ c.new_roll-roll.result lent.legs.now lent.tallies.now (left c.args.strips) (c.new_roll-roll.ensures.begins m) _ c.in_ok-open.ensures.opens kept.leg_count kept.tally_count (left_in g at.After-file_all) (filing g at.After-file_all _ c.in_ok-file_all.was) more.leg_count more.tally_count _ _ _ (ask verdict (judged _) c.in_ok-verdict.ensures.does) (ask totals (tallied _) c.in_ok-totals.ensures.does) (ask culprit (named _) c.in_ok-culprit.ensures.does) in
-    record { reported = ran_reported _ _ (c.new_roll-roll.ensures.whole m m).law _ _ _ _ _ _ ran; ran = ran; lent = still_lent kept more }
+    let ran = all_answered _ _ c.new-roll.result lent.legs.now lent.tallies.now (left c.args.strips) (c.new-roll.ensures.begins m) _ c.in_ok-open.ensures.opens kept.leg_count kept.tally_count (left_in g at.After-file_all) (filing g at.After-file_all _ c.in_ok-file_all.was) more.leg_count more.tally_count _ _ _ (ask verdict (judged _) c.in_ok-verdict.ensures.does) (ask totals (tallied _) c.in_ok-totals.ensures.does) (ask culprit (named _) c.in_ok-culprit.ensures.does) in
+    record { reported = ran_reported _ _ (c.new-roll.ensures.law m m) _ _ _ _ _ _ ran; ran = ran; lent = still_lent kept more }

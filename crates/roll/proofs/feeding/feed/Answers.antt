@@ -22,3 +22,13 @@ returns g c =
         holds = λ w h. record { counted = counts w h.counted; legs = c.extend-strip.ensures.extends w h.counted.bytes h.legs };
       };
     }
+
+pub returns-then-bytes-strip : goal.returns-then-bytes-strip
+returns-then-bytes-strip g c = record {
+  feeds = record {
+    text = bytes_slice _ c.type_inv.bytes;
+    cases = (let over = c.if-bytes-strip.true in let short = c.args.strip.now.short in omega arith, c.fault.ensures.value, refl);
+    counts = λ w h. h;
+    holds = λ w h. h;
+  };
+}
