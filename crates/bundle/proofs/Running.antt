@@ -5,7 +5,7 @@ use Rattle.folding.specs.declared.tally.Tally.{Tally}
 use Rattle.roll.specs.Calls.{Answer, done, tallied, judged, named, refused}
 use Rattle.roll.specs.Law.{Law}
 use Rattle.roll.specs.Refusals.{Call, verdict, totals, culprit}
-use Rattle.roll.specs.Runs.{opens, judges, adds, blames, apart, Run, opened, refused as turned_away}
+use Rattle.roll.specs.Runs.{opens, judges, adds, blames, apart, Run, opened, turned}
 use Rattle.roll.specs.Stands.{State, state}
 use Rattle.roll.specs.Steps.{Does, Opens}
 use Rattle.roll.specs.declared.roll.Roll.{Roll}
@@ -22,7 +22,7 @@ module _ {L : Type 0} (leg : List ℕ → L) (M : List ℕ → Type 0) (new : Ro
       let kept = opening.always.tables f refl in
       subst (Ran leg M legs tallies ss left.legs left.tallies) (sym (is_err ∙ ap Err same))
       (unopened left.roll
-      (turned_away (state new legs tallies) begins
+      (turned (state new legs tallies) begins
       (record { on = refl; left = left; called = opens (Err f) opening refl; fault = f; refused = refl; roll = refl; legs = apart refl; tallies = apart refl }))
       kept.0 kept.1)
 

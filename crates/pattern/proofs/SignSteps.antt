@@ -7,7 +7,7 @@ use Rattle.notation.specs.Grammar.{Atom, a_plain, an_escape, a_dot, a_class, a_g
 use Rattle.notation.specs.Automaton.{Frame, Mode, outcome_of}
 use Rattle.pattern.specs.Drafts.{AtomKept, Grows, by_atom, by_bar, by_repeat}
 use Rattle.pattern.specs.Signs.{text, is_end, is_inner, Formed, Handed, Waits}
-use Rattle.pattern.specs.Walks.{Leads, Steps, GroupRead}
+use Rattle.pattern.specs.Walks.{LeadsOn, Steps, GroupRead}
 use Rattle.notation.proofs.Runs.{NoRepeat}
 use Rattle.notation.proofs.Completes.{atom_runs, atom_no_repeat}
 use Rattle.pattern.proofs.Walking.{inside, part_within, atom_leads, bar_leads, repeat_leads}
@@ -51,7 +51,7 @@ module _ (p : List ℕ) (at d : ℕ) (r : Bool) (K K' : Mode → Frame → Type 
     here : drop at p ≡ text s ++ drop (at + n) p
     here = handed.part ∙ ap (λ k. text s ++ drop (at + k) p) (sym long)
 
-    steps : 0 < length (text s) → ((m : Mode) (fr : Frame) → K m fr → Leads p at d (at + n) m fr K') → Steps p at d K (at + n) K'
+    steps : 0 < length (text s) → ((m : Mode) (fr : Frame) → K m fr → LeadsOn p at d (at + n) m fr K') → Steps p at d K (at + n) K'
     steps some leads = record { forward = omega arith; within = omega (arith, part_within p at (text s) some handed.part); leads = leads }
 
     pub grown : Grows K K' r (text s) → Steps p at d K (at + n) K'

@@ -9,7 +9,7 @@ use Rattle.notation.specs.Automaton.{Frame, frame, later, Mode, ready, after, st
 use Rattle.pattern.specs.Drafts.{settled, AtomKept, BarKept, RepeatKept, ClosedKept}
 use Rattle.notation.specs.Refusals.{Stops}
 use Rattle.pattern.specs.Signs.{SignStops, Waits}
-use Rattle.pattern.specs.Walks.{Halts, Leads, StepStops, GroupStops, AlternativesRead, AlternativesStop}
+use Rattle.pattern.specs.Walks.{Halts, LeadsOn, StepStops, GroupStops, AlternativesRead, AlternativesStop}
 use Rattle.notation.proofs.Runs.{NoRepeat, settles, outcome_alive}
 use Rattle.pattern.proofs.Waiting.{after_atom, waiting}
 use Rattle.notation.proofs.Completes.{repeat_runs}
@@ -46,7 +46,7 @@ module _ (p : List ℕ) (at : ℕ) where
       -- an atom, from whatever came before it
       pub atom_leads : (e : Regex) → NoRepeat (drop at p)
           → ((fr : Frame) (ctx : List Frame) → outcome_of (state ready fr d ctx) (drop at p) ≡ outcome_of (state (after e) fr d ctx) (drop end p))
-          → AtomKept K K' e → (m : Mode) (fr : Frame) → K m fr → Leads p at d end m fr K'
+          → AtomKept K K' e → (m : Mode) (fr : Frame) → K m fr → LeadsOn p at d end m fr K'
       atom_leads e free runs told m fr keeps = record {
         mode = after e;
         frame = settled m fr;
@@ -54,7 +54,7 @@ module _ (p : List ℕ) (at : ℕ) where
         runs = λ ctx. settle_runs r m (waits m fr keeps) fr d ctx _ free ∙ runs (settled m fr) ctx;
       }
 
-      pub bar_leads : drop at p ≡ 124 ∷ drop end p → BarKept K K' → (m : Mode) (fr : Frame) → K m fr → Leads p at d end m fr K'
+      pub bar_leads : drop at p ≡ 124 ∷ drop end p → BarKept K K' → (m : Mode) (fr : Frame) → K m fr → LeadsOn p at d end m fr K'
       bar_leads is told m fr keeps = record {
         mode = ready;
         frame = frame (later (closed (settled m fr))) empty;
@@ -64,9 +64,9 @@ module _ (p : List ℕ) (at : ℕ) where
 
       -- a repeat of the atom in hand
       pub repeat_leads : (u : List ℕ) (g : Regex → Regex) → ((e : Regex) → Repeated u e (g e)) → r ≡ true → drop at p ≡ u ++ drop end p
-          → RepeatKept K K' g → (m : Mode) (fr : Frame) → K m fr → Leads p at d end m fr K'
+          → RepeatKept K K' g → (m : Mode) (fr : Frame) → K m fr → LeadsOn p at d end m fr K'
       repeat_leads u g written again is told m fr keeps =
-          after_atom (λ m. K m fr → Leads p at d end m fr K')
+          after_atom (λ m. K m fr → LeadsOn p at d end m fr K')
           (λ f kept.
           record {
             mode = ready;
@@ -77,10 +77,10 @@ module _ (p : List ℕ) (at : ℕ) where
           m (subst (λ b. Waits b m) again (waits m fr keeps)) keeps
 
 module _ (p : List ℕ) (from d at : ℕ) (K : Mode → Frame → Type 0) where
-  pub walk_stops : (f : Fault) → Leads p from d at ready opened K → StepStops p at d K f → AlternativesStop p from d f
+  pub walk_stops : (f : Fault) → LeadsOn p from d at ready opened K → StepStops p at d K f → AlternativesStop p from d f
   walk_stops f walk stop ctx = subst (Stops p f) (sym (walk.runs ctx)) (stop walk.mode walk.frame walk.keeps ctx)
 
-  pub walk_all : (r : Bool) → ((m : Mode) (fr : Frame) → K m fr → Waits r m) → (E : Regex → Type 0) → from ≤ at → at ≤ length p → Leads p from d at ready opened K → Halts p at → ClosedKept K E → AlternativesRead p from d at E
+  pub walk_all : (r : Bool) → ((m : Mode) (fr : Frame) → K m fr → Waits r m) → (E : Regex → Type 0) → from ≤ at → at ≤ length p → LeadsOn p from d at ready opened K → Halts p at → ClosedKept K E → AlternativesRead p from d at E
   walk_all r waits E forward within walk halts told = record {
     forward = forward;
     within = within;

@@ -17,7 +17,7 @@ use Rattle.notation.specs.Refusals.{Stops}
 abbrev pub Halts : List ℕ → ℕ → Type 0
 Halts p at = at < length p → slice_index p at ≡ 41
 
-pub record Leads (p : List ℕ) (at d end : ℕ) (m : Mode) (fr : Frame) (K : Mode → Frame → Type 0) : Type 0 where
+pub record LeadsOn (p : List ℕ) (at d end : ℕ) (m : Mode) (fr : Frame) (K : Mode → Frame → Type 0) : Type 0 where
   pub mode : Mode
   pub frame : Frame
   pub keeps : K mode frame
@@ -26,7 +26,7 @@ pub record Leads (p : List ℕ) (at d end : ℕ) (m : Mode) (fr : Frame) (K : Mo
 pub record Steps (p : List ℕ) (at d : ℕ) (K : Mode → Frame → Type 0) (end : ℕ) (K' : Mode → Frame → Type 0) : Type 0 where
   pub forward : at < end
   pub within : end ≤ length p
-  pub leads : (m : Mode) (fr : Frame) → K m fr → Leads p at d end m fr K'
+  pub leads : (m : Mode) (fr : Frame) → K m fr → LeadsOn p at d end m fr K'
 
 -- what a step answers where it is not refused: the end of the alternatives, or the draft after it
 abbrev pub Stepped : {T : Type 0} → (T → Regex → Type 0) → Cursor → ℕ → Draft T → Option (Cursor × Draft T) → Type 0

@@ -11,7 +11,7 @@ use Rattle.roll.specs.Calls.{Answer, done, tallied, judged, named, after, Gives,
 use Rattle.roll.specs.Histories.{keep, plain, Right}
 use Rattle.roll.specs.Plain.{texts, marks}
 use Rattle.roll.specs.Refusals.{Call, opening, filing, withdrawal, verdict, totals, culprit, refusal}
-use Rattle.roll.specs.Runs.{Fed, begun, more, full, back, Called, opens, files, withdraws, judges, adds, blames, Event, event, Passed, handed, apart, Turned, Run, made, granted, opened, refused}
+use Rattle.roll.specs.Runs.{Fed, begun, more, full, back, Called, opens, files, withdraws, judges, adds, blames, Event, event, Passed, handed, apart, Turned, Run, made, granted, opened, turned}
 use Rattle.roll.specs.Stands.{State, slots, Stands, Holds}
 use Rattle.roll.specs.Steps.{fault_of, heard, refusal_at, Does, Opens, AsMade}
 use Rattle.roll.specs.declared.strip.Strip.{Strip}
@@ -103,11 +103,11 @@ module _ {L : Type 0} (leg : List ℕ → L) (M : List ℕ → Type 0) where
   traced (opened {s = s} {is = is} {h = h} {n = n} {a = a} lent run same call free) =
       let kept = opening_keeps call free in
       step_granted s is h (opening n) a _ _ (traced run) kept.0 kept.1 kept.2
-  traced (refused {s = s} {is = is} {h = h} {c = c} {a = a} lent run turned) =
+  traced (turned {s = s} {is = is} {h = h} {c = c} {a = a} lent run t) =
       let so_far = traced run in
-      let which = (called_does turned.called).always.roll.which ∙ ap fault_of turned.refused in
-      step_refused is h c a _ _ turned.fault (subst (λ x. Traced x h) (sym (turned_same turned)) so_far)
-      (ap (λ x. refusal x c (length lent.legs) (length lent.tallies)) (sym (ap slots turned.on ∙ so_far.stands.held)) ∙ which) turned.refused
+      let which = (called_does t.called).always.roll.which ∙ ap fault_of t.refused in
+      step_refused is h c a _ _ t.fault (subst (λ x. Traced x h) (sym (turned_same t)) so_far)
+      (ap (λ x. refusal x c (length lent.legs) (length lent.tallies)) (sym (ap slots t.on ∙ so_far.stands.held)) ∙ which) t.refused
 
   -- a call that is lent the roll's own cells goes on with the run, granted or refused
   pub goes_on : {s is : State L} {h : List Event} {c : Call} {a : Answer} → Run leg M s h → Called leg M s c a is → Run leg M is (event s c a ∷ h)
@@ -116,4 +116,4 @@ module _ {L : Type 0} (leg : List ℕ → L) (M : List ℕ → Type 0) where
   goes_on {a = judged b} run call = granted run call refl
   goes_on {a = named c} run call = granted run call refl
   goes_on {s} {is} {a = calls.refused f} run call =
-      refused s run (record { on = refl; left = is; called = call; fault = f; refused = refl; roll = refl; legs = handed refl refl; tallies = handed refl refl })
+      turned s run (record { on = refl; left = is; called = call; fault = f; refused = refl; roll = refl; legs = handed refl refl; tallies = handed refl refl })

@@ -63,7 +63,7 @@ pub data Run {L : Type 0} (leg : List ℕ → L) (M : List ℕ → Type 0) : Sta
   made : {s : State L} → AsMade s.roll → s.legs ≡ [] → s.tallies ≡ [] → Run leg M s []
   granted : {s is : State L} {h : List Event} {c : Call} {a : Answer} → Run leg M s h → Called leg M s c a is → fault_of a ≡ None → Run leg M is (event s c a ∷ h)
   opened : {s is : State L} {h : List Event} {n : ℕ} {a : Answer} (lent : State L) → Run leg M s h → lent.roll ≡ s.roll → Called leg M lent (opening n) a is → fault_of a ≡ None → Run leg M is (event lent (opening n) a ∷ h)
-  refused : {s is : State L} {h : List Event} {c : Call} {a : Answer} (lent : State L) → Run leg M s h → Turned leg M s lent c a is → Run leg M is (event lent c a ∷ h)
+  turned : {s is : State L} {h : List Event} {c : Call} {a : Answer} (lent : State L) → Run leg M s h → Turned leg M s lent c a is → Run leg M is (event lent c a ∷ h)
 
 pub data Met : Roll → List Event → Type 0 where
   new : {r : Roll} → AsMade r → Met r []
