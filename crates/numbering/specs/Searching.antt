@@ -1,0 +1,30 @@
+-- How far a search has got. Only private functions cite it. Assumes nothing.
+--
+--   Sofar first next points moves     `moves` are the numbers that the first pairs of number and byte lead to, and `points` those met by
+--                                     them, in the order of first meeting
+--   Progress first next n m ..        the two tables, which were and are, begin with n such points and m such moves; past them nothing
+--                                     has changed
+--   Meets points p k met              p has the number k among the points met with it, which are the points and p behind them if it is new
+use Rattle.std.specs.Prelude.{◌≡◌, ℕ, ◌+◌, ◌*◌, ◌/◌, ◌%◌, ◌<◌, ◌≤◌, ◌⊎◌, List, [], ◌∷◌, ◌++◌, length, take, drop, Contains, Some}
+use Rattle.std.specs.List.{slice_get}
+use Rattle.numbering.specs.Numbering.{Leads}
+
+pub record Sofar {P : Type 0} (first : P) (next : P → ℕ → P) (points : List P) (moves : List ℕ) : Type 0 where
+  pub begins : slice_get points 0 ≡ Some first
+  pub once : (i j : ℕ) (p : P) → slice_get points i ≡ Some p → slice_get points j ≡ Some p → i ≡ j
+  pub within : length moves ≤ 256 * length points
+  pub leads : (i k : ℕ) → slice_get moves i ≡ Some k → Leads next points (i / 256) (i % 256) k
+  pub met : (k : ℕ) → 1 ≤ k → k < length points → (i : ℕ) × (slice_get moves i ≡ Some k) × (i / 256 < k)
+  pub ordered : (j k i : ℕ) → 1 ≤ j → j < k → slice_get moves i ≡ Some k → (h : ℕ) × (h < i) × (slice_get moves h ≡ Some j)
+
+pub record Progress {P : Type 0} (first : P) (next : P → ℕ → P) (n m : ℕ) (were are : List P) (before after : List ℕ) : Type 0 where
+  pub count : length (take n are) ≡ n
+  pub moved : length (take m after) ≡ m
+  pub so_far : Sofar first next (take n are) (take m after)
+  pub rest : drop n are ≡ drop n were
+  pub others : drop m after ≡ drop m before
+
+abbrev pub Meets : {P : Type 0} → List P → P → ℕ → List P → Type 0
+Meets points p k met =
+    ((slice_get points k ≡ Some p) × (met ≡ points))
+    ⊎ ((Contains points p → ⊥) × (k ≡ length points) × (met ≡ points ++ (p ∷ [])))
