@@ -4,5 +4,9 @@
 // The place machine: `place/build.rt` builds it.
 pub mod place;
 
+// The set machine: `set/build.rt` builds its tables.
+pub mod set;
+
 pub use crate::place::PlaceMachine;
 pub use crate::place::build::build;
+pub use crate::set::SetMachine;

@@ -1,6 +1,6 @@
 // The place machine (the position automaton, Glushkov's): a judging machine whose leg of a text is
 // the relation between states that the text makes.
-ghost use Rattle.std.specs.Prelude.{◌≡◌};
+ghost use Rattle.std.specs.Prelude.{◌≡◌, ◌==◌, not, bit_and};
 ghost use Rattle.relations.specs.Relations.{row as row_of};
 ghost use Rattle.machines.specs.Place.Runs.{leg as leg_of, stepped};
 ghost use Rattle.machines.specs.Place.Tables.{Made, Meant};
@@ -34,6 +34,13 @@ impl PlaceMachine {
         PlaceMachine {
             tables: whole.tables,
         }
+    }
+
+    // Whether one of these states accepts.
+    pub(crate) fn accepting(&self, states: u64) -> bool
+        ensures value { result ≡ not (bit_and states self.now.tables.accepts == 0) }
+    {
+        states & self.tables.accepts != 0
     }
 
     // Not by `Relation::then`: the byte's mask would then need a pass of its own, which is no plainer.
@@ -70,7 +77,7 @@ impl Judging for PlaceMachine {
     ghost inhabited = { λ m. made_inhabited m.tables m.made };
 
     fn accepts(&self, at: &Relation) -> bool {
-        at.row(PlaceNo::start()) & self.tables.accepts != 0
+        self.accepting(at.row(PlaceNo::start()))
     }
 
     fn lost(&self, at: &Relation) -> bool {

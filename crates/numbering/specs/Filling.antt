@@ -3,7 +3,8 @@
 --   Moves next points moves    entry 256 * s + c is the number of the point that c leads to from point s
 --   Fills first next n ..      `points` and `moves`, which were and are, begin with the points of the numbering and their moves; past them
 --                              nothing has changed
-use Rattle.std.specs.Prelude.{◌≡◌, ℕ, ◌+◌, ◌*◌, ◌<◌, List, length, take, drop, Some}
+--   Blank n cells              past the first n of them all cells are 0
+use Rattle.std.specs.Prelude.{◌≡◌, ℕ, ◌+◌, ◌-◌, ◌*◌, ◌<◌, List, length, take, drop, replicate, Some}
 use Rattle.std.specs.List.{slice_get}
 use Rattle.numbering.specs.Numbering.{Leads, Numbering}
 
@@ -16,3 +17,6 @@ pub record Fills {P : Type 0} (first : P) (next : P → ℕ → P) (n : ℕ) (we
   pub moved : Moves next (take n are) (take (256 * n) after)
   pub rest : drop n are ≡ drop n were
   pub others : drop (256 * n) after ≡ drop (256 * n) before
+
+abbrev pub Blank : ℕ → List ℕ → Type 0
+Blank n cells = drop n cells ≡ replicate (length cells - n) 0

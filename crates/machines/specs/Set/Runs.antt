@@ -1,0 +1,14 @@
+-- Where a text leads by the moves of a set machine. Assumes nothing.
+--
+--   led moves w s    the number that the text w leads to from set s
+--   leg n moves w    the map of numbers that w makes, where there are n sets: a number that no set has stays where it is
+use Rattle.std.specs.Prelude.{ℕ, ◌+◌, ◌*◌, cond, List, [], ◌∷◌, nat_lt, slice_index}
+use Rattle.machines.specs.declared.set.map.SetMap.{SetMap}
+use Rattle.machines.specs.Set.Maps.{map_of}
+
+unfoldable pub led : List ℕ → List ℕ → ℕ → ℕ
+led moves [] s = s
+led moves (c ∷ w) s = led moves w (slice_index moves (256 * s + c))
+
+abbrev pub leg : ℕ → List ℕ → List ℕ → SetMap
+leg n moves w = record { to = map_of (λ s. cond (nat_lt s n) (led moves w s) s) }

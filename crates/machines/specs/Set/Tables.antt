@@ -1,0 +1,22 @@
+-- The tables of the set machine over the tables of a place machine: the sets of states that texts reach, and their moves. Assumes nothing.
+--
+--   start            the set of state 0 alone, which is set 0
+--   SetTables t n .. the first n of `sets` are the sets that texts reach from `start` by t, numbered in the order of first meeting; entry
+--                    256 * s + c of `moves` is the number of the set that the byte c leads to from set s; what no set uses is 0
+use Rattle.std.specs.Prelude.{◌≡◌, ℕ, ◌*◌, ◌≤◌, List, length, take}
+use Rattle.numbering.specs.Filling.{Moves, Blank}
+use Rattle.numbering.specs.Numbering.{Numbering}
+use Rattle.machines.specs.declared.place.tables.Tables.{Tables}
+use Rattle.machines.specs.Place.Runs.{stepped}
+
+abbrev pub start : ℕ
+start = 1
+
+pub record SetTables (t : Tables) (n : ℕ) (sets moves : List ℕ) : Type 0 where
+  pub few : n ≤ 64
+  pub room : length sets ≡ 64
+  pub rows : length moves ≡ 16384
+  pub numbers : Numbering start (stepped t) (take n sets)
+  pub moved : Moves (stepped t) (take n sets) (take (256 * n) moves)
+  pub rest : Blank n sets
+  pub others : Blank (256 * n) moves

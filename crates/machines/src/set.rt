@@ -1,0 +1,121 @@
+// The set machine (the deterministic automaton of the subset construction): a judging machine whose leg
+// of a text is the map of set numbers that the text makes.
+ghost use Rattle.std.specs.Prelude.{◌≡◌, ℕ, ◌+◌, ◌*◌, ◌<◌, ◌↔◌, List, slice_index};
+ghost use Rattle.folding.specs.Texts.{Bytes};
+ghost use Rattle.notation.specs.Expressions.{Regex};
+ghost use Rattle.machines.specs.Place.Shown.Machine.{made_inhabited};
+ghost use Rattle.machines.specs.Place.Tables.{Meant};
+ghost use Rattle.machines.specs.Set.Runs.{led, leg as leg_of};
+ghost use Rattle.machines.specs.Set.Built.{SetBuilt};
+ghost use Rattle.machines.specs.Set.Tables.{SetTables};
+
+// The numbers of its states, the maps of them, and the build of its tables.
+pub mod build;
+pub mod map;
+pub mod setno;
+
+use crate::place::PlaceMachine;
+use crate::set::map::SetMap;
+use crate::set::setno::SetNo;
+use folding::fold::{Folding, Judging};
+
+// Over the tables that a granted build left. It steps by them alone; of the place machine it keeps
+// what a set accepts.
+#[derive(Clone, Copy)]
+pub struct SetMachine<'a> {
+    place: PlaceMachine,
+    count: usize,
+    sets: &'a [u64],
+    moves: &'a [u8],
+    ghost made: { SetTables place.tables count sets.now moves.now },
+}
+
+impl<'a> SetMachine<'a> {
+    pub fn new(
+        place: PlaceMachine,
+        count: usize,
+        sets: &'a [u64],
+        moves: &'a [u8],
+    ) -> SetMachine<'a>
+        requires tables { SetTables place.tables count sets.now moves.now }
+        ensures built { SetBuilt place.tables count sets.now (⟦<SetMachine<'a> as Judging>⟧.means result) (⟦<SetMachine<'a> as Folding>⟧.leg result) }
+    {
+        SetMachine {
+            place,
+            count,
+            sets,
+            moves,
+        }
+    }
+
+    // Where the byte leads from a set.
+    pub fn next(&self, from: SetNo, c: u8) -> SetNo
+        ensures value { from < self.now.count → result ≡ slice_index self.now.moves.now (256 * from + c) }
+    {
+        SetNo::nth(usize::from(self.moves[256 * usize::from(from) + usize::from(c)]))
+    }
+
+    // Where the text leads from a set.
+    fn walk(&self, from: SetNo, text: &[u8]) -> SetNo
+        ensures value { from < self.now.count → result ≡ led self.now.moves.now text.now from }
+    {
+        let mut at = from;
+        for c in text {
+            at = self.next(at, *c);
+        }
+        at
+    }
+
+    // The set of a number.
+    fn set(&self, number: SetNo) -> u64
+        ensures value { result ≡ slice_index self.now.sets.now number }
+    {
+        self.sets[usize::from(number)]
+    }
+}
+
+impl Folding for SetMachine<'_> {
+    type Leg = SetMap;
+
+    ghost leg = { λ m w. leg_of m.count m.moves.now w };
+
+    fn empty(&self) -> SetMap {
+        SetMap::identity()
+    }
+
+    fn step(&self, at: &SetMap, c: u8) -> SetMap {
+        let mut map = *at;
+        for s in 0..self.count {
+            let number = SetNo::nth(s);
+            map.set(number, self.next(at.to(number), c));
+        }
+        map
+    }
+
+    fn join(&self, first: &SetMap, second: &SetMap) -> SetMap {
+        first.then(second)
+    }
+
+    fn extend(&self, at: &SetMap, text: &[u8]) -> SetMap {
+        let mut map = *at;
+        for s in 0..self.count {
+            let number = SetNo::nth(s);
+            map.set(number, self.walk(at.to(number), text));
+        }
+        map
+    }
+}
+
+impl Judging for SetMachine<'_> {
+    ghost means = { λ m w. Meant m.place.tables w };
+
+    ghost inhabited = { λ m. made_inhabited m.place.tables m.place.made };
+
+    fn accepts(&self, at: &SetMap) -> bool {
+        self.place.accepting(self.set(at.to(SetNo::start())))
+    }
+
+    fn lost(&self, at: &SetMap) -> bool {
+        self.set(at.to(SetNo::start())) == 0
+    }
+}

@@ -1,0 +1,1 @@
+// The tables of the set machine, from a place machine.
