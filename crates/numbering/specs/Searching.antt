@@ -5,7 +5,8 @@
 --   Progress first next n m ..        the two tables, which were and are, begin with n such points and m such moves; past them nothing
 --                                     has changed
 --   Meets points p k met              p has the number k among the points met with it, which are the points and p behind them if it is new
-use Rattle.std.specs.Prelude.{◌≡◌, ℕ, ◌+◌, ◌*◌, ◌/◌, ◌%◌, ◌<◌, ◌≤◌, ◌⊎◌, List, [], ◌∷◌, ◌++◌, length, take, drop, Contains, Some}
+--   Likes next likes                  to each byte one that is not after it, and that no point tells apart from it
+use Rattle.std.specs.Prelude.{◌≡◌, ℕ, ◌+◌, ◌*◌, ◌/◌, ◌%◌, ◌<◌, ◌≤◌, ◌⊎◌, List, [], ◌∷◌, ◌++◌, length, take, drop, Contains, Some, slice_index}
 use Rattle.std.specs.List.{slice_get}
 use Rattle.numbering.specs.Numbering.{Leads}
 
@@ -28,3 +29,6 @@ abbrev pub Meets : {P : Type 0} → List P → P → ℕ → List P → Type 0
 Meets points p k met =
     ((slice_get points k ≡ Some p) × (met ≡ points))
     ⊎ ((Contains points p → ⊥) × (k ≡ length points) × (met ≡ points ++ (p ∷ [])))
+
+abbrev pub Likes : {P : Type 0} → (P → ℕ → P) → List ℕ → Type 0
+Likes {P} next likes = (c : ℕ) → c < 256 → (slice_index likes c ≤ c) × ((p : P) → next p (slice_index likes c) ≡ next p c)

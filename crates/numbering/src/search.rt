@@ -3,7 +3,7 @@ ghost use Rattle.std.specs.Prelude.{◌≡◌, ℕ, ◌+◌, ◌*◌, ◌/◌, �
 ghost use Rattle.numbering.specs.Filling.{Fills};
 ghost use Rattle.numbering.specs.Laws.{NumberingLaws};
 ghost use Rattle.numbering.specs.Reaching.{MoreThan};
-ghost use Rattle.numbering.specs.Searching.{Progress, Meets};
+ghost use Rattle.numbering.specs.Searching.{Likes, Progress, Meets};
 
 use crate::entry::Entry;
 use crate::space::{Point, Space};
@@ -23,9 +23,10 @@ pub fn number<P: Point, S: Space<P>, E: Entry>(
     let room = moves.len() / 256;
     let (_, met) = meet(&space.first(), cells, 0, room)?;
     let mut count = met;
+    let likes = likes(space);
     let mut row = 0;
     while row < count {
-        count = read(space, cells, moves, row, count)?;
+        count = read(space, &likes, cells, moves, row, count)?;
         row += 1;
     }
     Some(count)
@@ -35,11 +36,13 @@ pub fn number<P: Point, S: Space<P>, E: Entry>(
 // A byte like an earlier one leads where that one leads, so only the first of each kind is looked up.
 fn read<P: Point, S: Space<P>, E: Entry>(
     space: &S,
+    likes: &[u8; 256],
     cells: &mut [P::Cell],
     moves: &mut [E],
     row: usize,
     count: usize,
 ) -> Option<usize>
+    requires likes { Likes (S.next space.now) likes.now }
     requires row { row < count }
     requires count { 256 * count ≤ length moves.old }
     ensures room { MatchOption result (Unit {0}) (λ n. (count ≤ n) × (256 * n ≤ length moves.old)) }
@@ -51,19 +54,41 @@ fn read<P: Point, S: Space<P>, E: Entry>(
     let room = moves.len() / 256;
     let from = P::get(cells, row)?;
     let mut count = count;
-    for c in 0..256 {
-        let byte = c as u8;
-        let like = space.like(byte);
-        let to = if like < byte {
+    for c in 0..=u8::MAX {
+        let like = likes[usize::from(c)];
+        let to = if like < c {
             moves[256 * row + usize::from(like)]
         } else {
-            let (number, met) = meet(&space.next(&from, byte), cells, count, room)?;
+            let (number, met) = meet(&space.next(&from, c), cells, count, room)?;
             count = met;
             E::nth(number)
         };
-        moves[256 * row + c] = to;
+        moves[256 * row + usize::from(c)] = to;
     }
     Some(count)
+}
+
+// For each byte the first that is like it, which may be the byte itself.
+fn likes<P, S: Space<P>>(space: &S) -> [u8; 256]
+    ensures likes { Likes (S.next space.now) result }
+{
+    let mut likes = [0; 256];
+    for c in 0..=u8::MAX {
+        likes[usize::from(c)] = like(space, c);
+    }
+    likes
+}
+
+fn like<P, S: Space<P>>(space: &S, c: u8) -> u8
+    ensures before { result ≤ c }
+    ensures same { (p : P) → S.next space.now p result ≡ S.next space.now p c }
+{
+    for b in 0..c {
+        if space.alike(b, c) {
+            return b;
+        }
+    }
+    c
 }
 
 // The number of a point, and how many points are met with it: a new one gets the next number, if

@@ -1,5 +1,5 @@
 // What is numbered: points, and how a table keeps them.
-ghost use Rattle.std.specs.Prelude.{◌≡◌, ℕ, ◌<◌, ◌≤◌, List, length, take, Contains, Decides, MatchOption, Some, slice_set};
+ghost use Rattle.std.specs.Prelude.{◌≡◌, ℕ, ◌<◌, ◌≤◌, List, length, take, true, Contains, Decides, MatchOption, Some, slice_set};
 ghost use Rattle.std.specs.List.{slice_get};
 
 // A first point, and for each point the next one at each byte.
@@ -14,10 +14,9 @@ pub trait Space<P> {
     fn next(&self, point: &P, c: u8) -> P
         ensures value { result ≡ next self.now point.now c };
 
-    // A byte that no point tells apart from `c`, if there is one before it.
-    fn like(&self, c: u8) -> u8
-        ensures before { result ≤ c }
-        ensures same { (p : P) → next self.now p result ≡ next self.now p c };
+    // Says so only of bytes that no point tells apart.
+    fn alike(&self, b: u8, c: u8) -> bool
+        ensures same { result ≡ true → (p : P) → next self.now p b ≡ next self.now p c };
 }
 
 // Points that are kept in a table of cells, each at its number.
@@ -37,4 +36,27 @@ pub trait Point: Copy {
     fn put(&self, cells: &mut [Self::Cell], number: usize) -> bool
         ensures cases { Decides result (number < length (kept cells.old)) }
         ensures cells { kept cells.new ≡ slice_set (kept cells.old) number self.now };
+}
+
+// A number is kept as it is.
+impl Point for u64 {
+    type Cell = u64;
+
+    ghost kept = { λ cells. cells };
+
+    fn get(cells: &[u64], number: usize) -> Option<u64> {
+        cells.get(number).copied()
+    }
+
+    fn find(&self, cells: &[u64], count: usize) -> Option<usize> {
+        cells.iter().take(count).position(|cell| cell == self)
+    }
+
+    fn put(&self, cells: &mut [u64], number: usize) -> bool {
+        let room = number < cells.len();
+        if room {
+            cells[number] = *self;
+        }
+        room
+    }
 }
