@@ -1,2 +1,5 @@
+mod Listing
+mod Meeting
 mod Numbers
+mod Reached
 mod Searching
