@@ -1,3 +1,5 @@
+mod Agreeing
+mod Fitting
 mod Listing
 mod Meeting
 mod Numbers

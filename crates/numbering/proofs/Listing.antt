@@ -1,7 +1,9 @@
--- What stands where in a list, in the front of one, and in one with an element behind it. Assumes nothing.
-use Rattle.std.proofs.Common.{◌≡◌, ℕ, zero, suc, ◌<◌, ◌⊎◌, List, [], ◌∷◌, ◌++◌, length, take, Contains, Some, refl, sym, ap, ◌∙◌, inl, inr, arith}
+-- What stands where in a list, in the front of one, in one with an element behind it, and in the list of the images. Assumes nothing.
+use Rattle.std.proofs.Common.{◌≡◌, ℕ, zero, suc, ◌<◌, ◌⊎◌, List, [], ◌∷◌, ◌++◌, length, map, take, Contains, Some, refl, sym, ap, ◌∙◌, inl, inr, arith}
 use Rattle.std.specs.List.{slice_get}
-use Rattle.std.proofs.lemmas.Option.{none-some, same_Some, slice_get_within, slice_get-get_or, get_or_from_slice_get}
+use Rattle.std.specs.Option.{option_map}
+use Rattle.std.proofs.lemmas.List.{length-map}
+use Rattle.std.proofs.lemmas.Option.{none-some, same_Some, slice_get_within, slice_get-map, slice_get-get_or, get_or_from_slice_get}
 
 pub same_at_each : {X : Type 0} (xs ys : List X) → ((k : ℕ) → slice_get xs k ≡ slice_get ys k) → xs ≡ ys
 same_at_each [] [] same = refl
@@ -49,3 +51,12 @@ push_cases [] y zero x at = inr (refl, sym (same_Some y x at))
 push_cases [] y (suc k) x at = absurd (none-some x at)
 push_cases (z ∷ xs) y zero x at = inl at
 push_cases (z ∷ xs) y (suc k) x at = elim (push_cases xs y k x at) [ inl old ↦ inl old | inr new ↦ inr (ap suc new.0, new.1) ]
+
+pub at_map : {X Y : Type 0} (f : X → Y) (xs : List X) (k : ℕ) (x : X) → slice_get xs k ≡ Some x → slice_get (map f xs) k ≡ Some (f x)
+at_map f xs k x at = slice_get-map f xs k ∙ ap (option_map f) at
+
+pub map_at : {X Y : Type 0} (f : X → Y) (xs : List X) (k : ℕ) (y : Y) → slice_get (map f xs) k ≡ Some y → (x : X) × (slice_get xs k ≡ Some x) × (y ≡ f x)
+map_at f xs k y at =
+    let inside : k < length xs = omega (arith, slice_get_within (map f xs) k y at, length-map xs f) in
+    let w = within xs k inside in
+    (w.0, w.1, same_Some y (f w.0) (sym at ∙ at_map f xs k w.0 w.1))

@@ -29,7 +29,7 @@ leads_on next ps qs s c k more leads = record {
   to = more k (next leads.point c) leads.to;
 }
 
-pub one_lead : {P : Type 0} (next : P → ℕ → P) (ps : List P) (s c k k' : ℕ) → Once ps → Leads next ps s c k → Leads next ps s c k' → k ≡ k'
+one_lead : {P : Type 0} (next : P → ℕ → P) (ps : List P) (s c k k' : ℕ) → Once ps → Leads next ps s c k → Leads next ps s c k' → k ≡ k'
 one_lead next ps s c k k' once leads leads' =
     let point : leads'.point ≡ leads.point = same_Some leads'.point leads.point (sym leads'.from ∙ leads.from) in
     once k k' (next leads.point c) leads.to (leads'.to ∙ ap (λ x. Some (next x c)) point)

@@ -1,13 +1,13 @@
 -- Points that an earlier one leads to are reached by texts, and as many different ones are reached as stand in a list. Assumes nothing.
 use Rattle.std.proofs.Common.{◌≡◌, ℕ, zero, suc, ◌+◌, ◌<◌, List, [], ◌∷◌, ◌++◌, length, map, Some, refl, sym, ap, ◌∙◌, ⊎_elim, arith}
 use Rattle.std.specs.List.{slice_get}
-use Rattle.std.specs.Option.{option_map}
 use Rattle.std.proofs.lemmas.Bool.{cases_eq}
 use Rattle.std.proofs.lemmas.List.{length-map}
-use Rattle.std.proofs.lemmas.Option.{same_Some, slice_get_within, slice_get-map}
+use Rattle.std.proofs.lemmas.Option.{same_Some, slice_get_within}
 use Rattle.folding.specs.Texts.{AllBytes}
 use Rattle.folding.proofs.Texts.{bytes_append}
 use Rattle.numbering.specs.Reaching.{after, Reached, MoreThan}
+use Rattle.numbering.proofs.Listing.{at_map}
 use Rattle.numbering.proofs.Meeting.{Once, Led}
 
 abbrev pub AllReached : {P : Type 0} → P → (P → ℕ → P) → List P → Type 0
@@ -54,7 +54,7 @@ module _ {P : Type 0} (first : P) (next : P → ℕ → P) where
   pub many_reached : (ps : List P) (n : ℕ) → length ps ≡ n + 1 → Once ps → AllReached first next ps → MoreThan n first next
   many_reached ps n long once reached =
       let t = texts_for ps reached in
-      let at = λ (i : ℕ) (v : List ℕ) (here : slice_get t.0 i ≡ Some v). sym (ap (λ l. slice_get l i) t.2) ∙ slice_get-map (after next first) t.0 i ∙ ap (option_map (after next first)) here in
+      let at = λ (i : ℕ) (v : List ℕ) (here : slice_get t.0 i ≡ Some v). sym (ap (λ l. slice_get l i) t.2) ∙ at_map (after next first) t.0 i v here in
       record {
         texts = t.0;
         bytes = t.1;
