@@ -1,7 +1,9 @@
 mod Agreeing
 mod Fitting
+mod Liking
 mod Listing
 mod Meeting
 mod Numbers
 mod Reached
+mod Reading
 mod Searching

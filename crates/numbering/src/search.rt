@@ -3,7 +3,7 @@ ghost use Rattle.std.specs.Prelude.{◌≡◌, ℕ, ◌+◌, ◌*◌, ◌/◌, �
 ghost use Rattle.numbering.specs.Filling.{Fills};
 ghost use Rattle.numbering.specs.Laws.{NumberingLaws};
 ghost use Rattle.numbering.specs.Reaching.{MoreThan};
-ghost use Rattle.numbering.specs.Searching.{Likes, Progress, Meets};
+ghost use Rattle.numbering.specs.Searching.{Likes, Progress, Fit, Reading, MeetsIn};
 
 use crate::entry::Entry;
 use crate::space::{Point, Space};
@@ -15,7 +15,7 @@ pub fn number<P: Point, S: Space<P>, E: Entry>(
     cells: &mut [P::Cell],
     moves: &mut [E],
 ) -> Option<usize>
-    ensures outcome { length moves.old ≡ 256 * length (P.kept cells.old) → length (P.kept cells.old) ≤ E.limit
+    ensures outcome { Fit E.limit (P.kept cells.old) (map E.number moves.old)
         → MatchOption result (MoreThan (length (P.kept cells.old)) (S.first space.now) (S.next space.now))
         (λ n. Fills (S.first space.now) (S.next space.now) n (P.kept cells.old) (P.kept cells.new) (map E.number moves.old) (map E.number moves.new)) }
     ensures laws { NumberingLaws (S.first space.now) (S.next space.now) }
@@ -42,39 +42,37 @@ fn read<P: Point, S: Space<P>, E: Entry>(
     row: usize,
     count: usize,
 ) -> Option<usize>
-    requires likes { Likes (S.next space.now) likes.now }
+    requires likes { Likes (S.next space.now) 256 likes.now }
     requires row { row < count }
     requires count { 256 * count ≤ length moves.old }
     ensures room { MatchOption result (Unit {0}) (λ n. (count ≤ n) × (256 * n ≤ length moves.old)) }
-    ensures outcome { (were : List P) (before : List ℕ) → length moves.old ≡ 256 * length (P.kept cells.old) → length (P.kept cells.old) ≤ E.limit
-        → Progress (S.first space.now) (S.next space.now) count (256 * row) were (P.kept cells.old) before (map E.number moves.old)
-        → MatchOption result (MoreThan (length (P.kept cells.old)) (S.first space.now) (S.next space.now))
-        (λ n. (length (P.kept cells.new) ≡ length (P.kept cells.old)) × Progress (S.first space.now) (S.next space.now) n (256 * row + 256) were (P.kept cells.new) before (map E.number moves.new)) }
+    ensures outcome { MatchOption result
+        ((were : List P) (before : List ℕ) → Fit E.limit (P.kept cells.old) (map E.number moves.old) → Progress (S.first space.now) (S.next space.now) count (256 * row) were (P.kept cells.old) before (map E.number moves.old) → MoreThan (length (P.kept cells.old)) (S.first space.now) (S.next space.now))
+        (λ n. Reading (S.first space.now) (S.next space.now) E.limit count (256 * row) (P.kept cells.old) (map E.number moves.old) n (256 * row + 256) (P.kept cells.new) (map E.number moves.new)) }
 {
     let room = moves.len() / 256;
     let from = P::get(cells, row)?;
     let mut count = count;
-    for c in 0..=u8::MAX {
-        let like = likes[usize::from(c)];
-        let to = if like < c {
-            moves[256 * row + usize::from(like)]
+    for c in 0..256 {
+        let like = usize::from(likes[c]);
+        moves[256 * row + c] = if like < c {
+            moves[256 * row + like]
         } else {
-            let (number, met) = meet(&space.next(&from, c), cells, count, room)?;
+            let (number, met) = meet(&space.next(&from, c as u8), cells, count, room)?;
             count = met;
             E::nth(number)
         };
-        moves[256 * row + usize::from(c)] = to;
     }
     Some(count)
 }
 
 // For each byte the first that is like it, which may be the byte itself.
 fn likes<P, S: Space<P>>(space: &S) -> [u8; 256]
-    ensures likes { Likes (S.next space.now) result }
+    ensures likes { Likes (S.next space.now) 256 result }
 {
     let mut likes = [0; 256];
-    for c in 0..=u8::MAX {
-        likes[usize::from(c)] = like(space, c);
+    for c in 0..256 {
+        likes[c] = like(space, c as u8);
     }
     likes
 }
@@ -102,7 +100,7 @@ fn meet<P: Point>(
     requires count { count ≤ room }
     ensures room { MatchOption result (Unit {0}) (λ r. (count ≤ r.1) × (r.1 ≤ room)) }
     ensures met { count ≤ length (P.kept cells.old) → MatchOption result ((Contains (take count (P.kept cells.old)) point.now → ⊥) × ((count ≡ room) ⊎ (count ≡ length (P.kept cells.old))))
-        (λ r. Meets (take count (P.kept cells.old)) point.now r.0 (take r.1 (P.kept cells.new)) × (r.1 ≤ length (P.kept cells.new)) × (drop r.1 (P.kept cells.new) ≡ drop r.1 (P.kept cells.old)) × (length (P.kept cells.new) ≡ length (P.kept cells.old))) }
+        (λ r. MeetsIn count (P.kept cells.old) point.now r.0 r.1 (P.kept cells.new)) }
 {
     match point.find(cells, count) {
         Some(number) => Some((number, count)),

@@ -1,9 +1,6 @@
-use Rattle.std.proofs.Common.{◌≡◌, ℕ, ◌+◌, ◌*◌, ◌/◌, ◌<◌, ◌≤◌, ◌⊎◌, List, length, map, take, drop, Contains, MatchOption, ◌-◌}
-use Rattle.numbering.specs.Filling.{Fills}
-use Rattle.numbering.specs.Laws.{NumberingLaws}
-use Rattle.numbering.specs.Reaching.{MoreThan}
-use Rattle.numbering.specs.Searching.{Likes, Progress, Meets}
+use Rattle.std.proofs.Common.{◌≡◌, length}
+use Rattle.numbering.specs.Searching.{Likes}
 use Rattle.numbering.proofs.search.likes.Given as goal
 
 abbrev pub invariant-loop-c : goal.invariant-loop-c
-invariant-loop-c g l = ?
+invariant-loop-c g l = (length l.likes ≡ 256) × Likes (g.S.Space.next l.space) l.c l.likes
