@@ -7,7 +7,7 @@ ghost use Rattle.machines.specs.Place.Shown.Machine.{made_inhabited};
 ghost use Rattle.machines.specs.Place.Tables.{Meant};
 ghost use Rattle.machines.specs.Set.Runs.{led, leg as leg_of};
 ghost use Rattle.machines.specs.Set.Built.{SetBuilt};
-ghost use Rattle.machines.specs.Set.Tables.{SetTables};
+ghost use Rattle.machines.specs.Set.Tables.{SetTables, Follows};
 
 // The numbers of its states, the maps of them, and the build of its tables.
 pub mod build;
@@ -27,7 +27,7 @@ pub struct SetMachine<'a> {
     count: usize,
     sets: &'a [u64],
     moves: &'a [u8],
-    ghost made: { SetTables place.tables count sets.now moves.now },
+    ghost follows: { Follows place.tables count sets.now moves.now },
 }
 
 impl<'a> SetMachine<'a> {

@@ -1,0 +1,4 @@
+-- The lemmas about the set machine, a topic to a file. Assumes nothing.
+pub mod Composing
+pub mod Following
+pub mod Moving
