@@ -1,0 +1,5 @@
+use Rattle.machines.proofs.SetLemmas.Following.{Sent}
+use Rattle.machines.proofs.set.SetMachineFolding.extend.Given as goal
+
+abbrev pub invariant-loop-s : goal.invariant-loop-s
+invariant-loop-s l = Sent l.self.count l.self.moves.now l.text l.at l.map l.s
