@@ -4,3 +4,4 @@ pub mod Composing
 pub mod Following
 pub mod Moving
 pub mod Tabling
+pub mod Walking

@@ -1,8 +1,13 @@
 use Rattle.std.proofs.Common.{arith}
-use Rattle.machines.proofs.SetLemmas.Following.{sent_on}
+use Rattle.folding.proofs.Texts.{bytes_slice}
+use Rattle.machines.specs.Set.Runs.{leg}
+use Rattle.machines.proofs.SetLemmas.Walking.{extends_more}
 use Rattle.machines.proofs.set.SetMachineFolding.extend.Goals as goal
 
-pub returns : goal.returns
-returns c =
+pub loop-done-preserved : goal.loop-done-preserved
+loop-done-preserved c =
     let m = c.args.self.now in
-    record { extends = λ w bytes is. sent_on m.place.tables m.count m.sets.now m.moves.now m.follows w c.args.text.now c.args.at.now c.loop-s.map c.loop-s.s bytes is c.loop-s.invariant (omega arith) }
+    let text = c.args.text.now in (
+      omega arith,
+      extends_more (leg m.count m.moves.now) c.args.at.now c.loop-done.map c.onward-map.result text c.loop-done.done c.min-end.result (bytes_slice text c.type_inv.text) (omega arith) c.loop-done.invariant.1 c.onward-map.ensures.extends,
+    )
