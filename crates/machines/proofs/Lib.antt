@@ -1,1 +1,2 @@
 pub mod PlaceLemmas
+pub mod SetLemmas

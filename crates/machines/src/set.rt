@@ -1,13 +1,14 @@
 // The set machine (the deterministic automaton of the subset construction): a judging machine whose leg
 // of a text is the map of set numbers that the text makes.
 ghost use Rattle.std.specs.Prelude.{◌≡◌, ℕ, ◌+◌, ◌*◌, ◌<◌, ◌↔◌, List, slice_index};
+ghost use Rattle.folding.specs.Legs.{Extends};
 ghost use Rattle.folding.specs.Texts.{Bytes};
 ghost use Rattle.notation.specs.Expressions.{Regex};
 ghost use Rattle.machines.specs.Place.Shown.Machine.{made_inhabited};
 ghost use Rattle.machines.specs.Place.Tables.{Meant};
 ghost use Rattle.machines.specs.Set.Runs.{led, leg as leg_of};
 ghost use Rattle.machines.specs.Set.Built.{SetBuilt};
-ghost use Rattle.machines.specs.Set.Tables.{SetTables};
+ghost use Rattle.machines.specs.Set.Tables.{SetTables, Follows};
 
 // The numbers of its states, the maps of them, and the build of its tables.
 pub mod build;
@@ -19,6 +20,9 @@ use crate::set::map::SetMap;
 use crate::set::setno::SetNo;
 use folding::fold::{Folding, Judging};
 
+// How many bytes `extend` walks first, from every set.
+const FIRST_PIECE: usize = 16;
+
 // Over the tables that a granted build left. It steps by them alone; of the place machine it keeps
 // what a set accepts.
 #[derive(Clone, Copy)]
@@ -27,7 +31,7 @@ pub struct SetMachine<'a> {
     count: usize,
     sets: &'a [u64],
     moves: &'a [u8],
-    ghost made: { SetTables place.tables count sets.now moves.now },
+    ghost follows: { Follows place.tables count sets.now moves.now },
 }
 
 impl<'a> SetMachine<'a> {
@@ -66,6 +70,25 @@ impl<'a> SetMachine<'a> {
         at
     }
 
+    // Where the text leads from where the map does: one walk for each set that the map leads to.
+    fn onward(&self, at: &SetMap, text: &[u8]) -> SetMap
+        ensures extends { Extends (leg_of self.now.count self.now.moves.now) at.now text.now result }
+    {
+        let mut map = *at;
+        let mut walks = SetMap::identity();
+        let mut walked = [false; 64];
+        for s in 0..self.count {
+            let number = SetNo::nth(s);
+            let from = at.to(number);
+            if !walked[usize::from(from)] {
+                walks.set(from, self.walk(from, text));
+                walked[usize::from(from)] = true;
+            }
+            map.set(number, walks.to(from));
+        }
+        map
+    }
+
     // The set of a number.
     fn set(&self, number: SetNo) -> u64
         ensures value { result ≡ slice_index self.now.sets.now number }
@@ -98,9 +121,12 @@ impl Folding for SetMachine<'_> {
 
     fn extend(&self, at: &SetMap, text: &[u8]) -> SetMap {
         let mut map = *at;
-        for s in 0..self.count {
-            let number = SetNo::nth(s);
-            map.set(number, self.walk(at.to(number), text));
+        let mut done = 0;
+        while done < text.len() {
+            // As long as all before it: the longer a text, the fewer sets it leads to.
+            let end = (2 * done).max(FIRST_PIECE).min(text.len());
+            map = self.onward(&map, &text[done..end]);
+            done = end;
         }
         map
     }

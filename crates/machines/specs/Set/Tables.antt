@@ -3,7 +3,7 @@
 --   start            the set of state 0 alone, which is set 0
 --   SetTables t n .. the first n of `sets` are the sets that texts reach from `start` by t, numbered in the order of first meeting; entry
 --                    256 * s + c of `moves` is the number of the set that the byte c leads to from set s; what no set uses is 0
-use Rattle.std.specs.Prelude.{◌≡◌, ℕ, ◌*◌, ◌≤◌, List, length, take}
+use Rattle.std.specs.Prelude.{◌≡◌, ℕ, ◌+◌, ◌*◌, ◌<◌, ◌≤◌, List, length, take, slice_index}
 use Rattle.numbering.specs.Filling.{Moves, Blank}
 use Rattle.numbering.specs.Numbering.{Numbering}
 use Rattle.machines.specs.declared.place.tables.Tables.{Tables}
@@ -20,3 +20,13 @@ pub record SetTables (t : Tables) (n : ℕ) (sets moves : List ℕ) : Type 0 whe
   pub moved : Moves (stepped t) (take n sets) (take (256 * n) moves)
   pub rest : Blank n sets
   pub others : Blank (256 * n) moves
+
+-- what a machine over such tables keeps: set 0 is `start`, and each move leads to the set that the byte leads to
+abbrev pub Follows : Tables → ℕ → List ℕ → List ℕ → Type 0
+Follows t n sets moves =
+    (1 ≤ n)
+    × (n ≤ 64)
+    × (length sets ≡ 64)
+    × (length moves ≡ 16384)
+    × (slice_index sets 0 ≡ start)
+    × ((s c : ℕ) → s < n → c < 256 → (slice_index moves (256 * s + c) < n) × (slice_index sets (slice_index moves (256 * s + c)) ≡ stepped t (slice_index sets s) c))

@@ -1,0 +1,7 @@
+use Rattle.std.proofs.Common.{◌≡◌, ◌<◌, drop}
+use Rattle.machines.specs.Set.Runs.{led}
+use Rattle.machines.proofs.set.SetMachine.walk.Given as goal
+
+-- what is left leads on from here to where the whole text leads
+abbrev pub invariant-loop-c : goal.invariant-loop-c
+invariant-loop-c l = l.fn.from < l.self.count → (l.at < l.self.count) × (led l.self.moves.now (drop l.c-index l.text) l.at ≡ led l.self.moves.now l.text l.fn.from)
