@@ -1,4 +1,5 @@
 -- The lemmas about the set machine, a topic to a file. Assumes nothing.
+pub mod Building
 pub mod Built
 pub mod Composing
 pub mod Following

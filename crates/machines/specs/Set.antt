@@ -1,4 +1,5 @@
 -- What the set machine over a place machine is and what holds of it. Assumes nothing.
+pub mod Building
 pub mod Built
 pub mod Maps
 pub mod Runs

@@ -1,7 +1,6 @@
 // The place machine (the position automaton, Glushkov's): a judging machine whose leg of a text is
 // the relation between states that the text makes.
-ghost use Rattle.std.specs.Prelude.{◌≡◌, ◌==◌, not, bit_and};
-ghost use Rattle.relations.specs.Relations.{row as row_of};
+ghost use Rattle.std.specs.Prelude.{◌≡◌, ◌==◌, not, bit_and, slice_index};
 ghost use Rattle.machines.specs.Place.Runs.{leg as leg_of, stepped};
 ghost use Rattle.machines.specs.Place.Tables.{Made, Meant};
 ghost use Rattle.machines.specs.Place.Shown.Machine.{made_inhabited};
@@ -43,11 +42,18 @@ impl PlaceMachine {
         states & self.tables.accepts != 0
     }
 
-    // Not by `Relation::then`: the byte's mask would then need a pass of its own, which is no plainer.
-    fn step_row(&self, at: &Relation, c: u8, q: PlaceNo) -> u64
-        ensures value { result ≡ stepped self.now.tables (row_of at.now q) c }
+    // The places that take the byte.
+    pub(crate) fn takes(&self, c: u8) -> u64
+        ensures value { result ≡ slice_index self.now.tables.takes c }
     {
-        masks::image(&self.tables.follow, at.row(q)) & self.tables.takes[usize::from(c)]
+        self.tables.takes[usize::from(c)]
+    }
+
+    // Where the byte leads from these states.
+    pub(crate) fn stepped(&self, states: u64, c: u8) -> u64
+        ensures value { result ≡ stepped self.now.tables states c }
+    {
+        masks::image(&self.tables.follow, states) & self.takes(c)
     }
 }
 
@@ -62,7 +68,8 @@ impl Folding for PlaceMachine {
 
     fn step(&self, at: &Relation, c: u8) -> Relation {
         Relation {
-            rows: array::from_fn(|q| self.step_row(at, c, PlaceNo::nth(q))),
+            // Not by `Relation::then`: the byte's mask would then need a pass of its own, which is no plainer.
+            rows: array::from_fn(|q| self.stepped(at.row(PlaceNo::nth(q)), c)),
         }
     }
 

@@ -3,7 +3,7 @@ mod Fitting
 mod Liking
 mod Listing
 mod Meeting
-mod Numbers
+pub mod Numbers
 mod Reached
 mod Reading
 mod Searching
