@@ -1,0 +1,5 @@
+pub mod Automata
+pub mod Building
+pub mod Maps
+pub mod Runs
+pub mod Starts

@@ -1,0 +1,13 @@
+// The start machine, over any machine with one move for each state and byte. It knows no pattern.
+#![tactic(auto)]
+
+pub mod automaton;
+pub mod build;
+pub mod machine;
+pub mod startno;
+pub mod statemap;
+
+pub use crate::automaton::Automaton;
+pub use crate::build::build_starts;
+pub use crate::machine::StartMachine;
+pub use crate::startno::StartNo;

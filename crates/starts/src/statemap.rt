@@ -1,0 +1,84 @@
+// Maps of an automaton's states: what a text does to each of them (in the field: a transformation).
+ghost use Rattle.std.specs.Prelude.{◌≡◌, ◌%◌, ◌<◌, ◌≤◌, slice_index};
+ghost use Rattle.starts.specs.Maps.{composed, identity as identity_map, moved_by, rows};
+
+use crate::automaton::Automaton;
+use numbering::space::Point;
+use std::array;
+
+// Entry s is the number of the state that s is sent to: a row of the table of maps. An entry of a state
+// that there is not is 0.
+#[derive(Clone, Copy)]
+pub struct StateMap {
+    to: [u8; 64],
+}
+
+impl StateMap {
+    // Each of the states stays where it is.
+    pub fn identity(states: usize) -> StateMap
+        ensures value { result ≡ identity_map states }
+    {
+        StateMap {
+            to: array::from_fn(|s| if s < states { s as u8 } else { 0 }),
+        }
+    }
+
+    // Where state s is sent.
+    pub fn to(&self, s: usize) -> usize
+        ensures value { result ≡ slice_index self.now.to s % 64 }
+    {
+        usize::from(self.to.get(s).copied().unwrap_or(0)) % 64
+    }
+
+    // First this one, and then the byte.
+    pub fn step<A: Automaton>(&self, automaton: &A, c: u8) -> StateMap
+        ensures value { result ≡ moved_by (A.count automaton.now) (A.moved automaton.now) self.now c }
+    {
+        let states = automaton.states();
+        StateMap {
+            to: array::from_fn(|s| if s < states {
+                A::index(automaton.next(A::state(self.to(s)), c)) as u8
+            } else {
+                0
+            }),
+        }
+    }
+
+    // First this one, and then `second`.
+    pub fn then(&self, second: &StateMap, states: usize) -> StateMap
+        ensures value { result ≡ composed states self.now second.now }
+    {
+        StateMap {
+            to: array::from_fn(|s| if s < states {
+                second.to(self.to(s)) as u8
+            } else {
+                0
+            }),
+        }
+    }
+}
+
+// A map is kept as a row of 64 bytes.
+impl Point for StateMap {
+    type Cell = u8;
+
+    ghost kept = { λ cells. rows cells };
+
+    fn get(cells: &[u8], number: usize) -> Option<StateMap> {
+        let (rows, _) = cells.as_chunks::<64>();
+        rows.get(number).map(|row| StateMap { to: *row })
+    }
+
+    fn find(&self, cells: &[u8], count: usize) -> Option<usize> {
+        let (rows, _) = cells.as_chunks::<64>();
+        rows.iter().take(count).position(|row| *row == self.to)
+    }
+
+    fn put(&self, cells: &mut [u8], number: usize) -> bool {
+        let room = number < cells.len() / 64;
+        if room {
+            cells[64 * number..64 * number + 64].copy_from_slice(&self.to);
+        }
+        room
+    }
+}
