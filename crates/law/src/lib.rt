@@ -1,19 +1,38 @@
-// Where patterns, machines and rolls meet: the machine of a pattern, and the whole law with it.
+// Where patterns, machines and rolls meet: the machines of a pattern, and the whole law with each.
 #![tactic(auto)]
 
-ghost use Rattle.law.specs.Whole.{Whole};
+ghost use Rattle.law.specs.Whole.{OfPattern, Whole};
+ghost use Rattle.machines.specs.Set.Tables.{SetTables};
 
 use folding::fold::{Folding, Judging};
-use machines::PlaceMachine;
+use machines::{PlaceMachine, SetMachine};
 use pattern::Pattern;
 
 // The place machine of a pattern that was read. `whole` is what the library is for: it speaks of this
 // machine, of every run of a roll under it, and of any run of another roll, under a machine of kind O
 // (which may be the same kind).
 pub fn machine_of<O: Judging>(pattern: &Pattern) -> PlaceMachine
+    ensures of { OfPattern pattern.now result.tables }
     ensures whole { (o : O)
         → Whole pattern.now (⟦<PlaceMachine as Folding>⟧.leg result) (⟦<PlaceMachine as Judging>⟧.means result)
         (O.Folding.leg o) (O.Judging.means o) }
 {
     machines::build(pattern)
+}
+
+// The set machine of the same pattern, over the tables that a granted build left.
+pub fn set_machine_of<'a, O: Judging>(
+    pattern: &Pattern,
+    place: PlaceMachine,
+    count: usize,
+    sets: &'a [u64],
+    moves: &'a [u8],
+) -> SetMachine<'a>
+    requires of { OfPattern pattern.now place.tables }
+    requires tables { SetTables place.tables count sets.now moves.now }
+    ensures whole { (o : O)
+        → Whole pattern.now (⟦<SetMachine<'a> as Folding>⟧.leg result) (⟦<SetMachine<'a> as Judging>⟧.means result)
+        (O.Folding.leg o) (O.Judging.means o) }
+{
+    SetMachine::new(place, count, sets, moves)
 }
