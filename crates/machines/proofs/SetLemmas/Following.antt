@@ -1,6 +1,7 @@
 -- What a text does to the sets of a set machine whose moves follow the place machine's tables. Assumes nothing.
-use Rattle.std.proofs.Common.{◌≡◌, ℕ, ◌<◌, ◌≤◌, cond, ltb, length, List, [], ◌∷◌, ◌++◌, get_or, refl, sym, ap, subst, ◌∙◌, ⊎_elim, arith}
-use Rattle.std.proofs.lemmas.Bool.{cases_lt, cond_below, cond_above}
+use Rattle.std.proofs.Common.{◌≡◌, ℕ, ◌+◌, ◌<◌, ◌≤◌, cond, ltb, length, set, List, [], ◌∷◌, ◌++◌, get_or, refl, sym, ap, subst, ◌∙◌, ⊎_elim, arith}
+use Rattle.std.proofs.lemmas.List.{length-set, get_or-set_same, get_or-set_other}
+use Rattle.std.proofs.lemmas.Bool.{cases_lt, cases_eq, cond_below, cond_above}
 use Rattle.folding.specs.Texts.{Bytes}
 use Rattle.machines.specs.declared.place.tables.Tables.{Tables}
 use Rattle.machines.specs.declared.set.map.SetMap.{SetMap}
@@ -16,6 +17,28 @@ pub record Sent (n : ℕ) (moves text : List ℕ) (at map : SetMap) (upto : ℕ)
   pub long : length map.to ≡ 64
   pub sent : (s : ℕ) → s < upto → to at s < n → to map s ≡ led moves text (to at s)
   pub kept : (s : ℕ) → upto ≤ s → to map s ≡ to at s
+
+-- one entry more
+pub sent_more : (n : ℕ) (moves text : List ℕ) (at map map' : SetMap) (s number from x : ℕ) → Sent n moves text at map s → s < 64 → number ≡ s → from ≡ to at number → (from < n → x ≡ led moves text from) → map' ≡ record { to = set map.to number x } → Sent n moves text at map' (s + 1)
+sent_more n moves text at map map' s number from x so_far low is_s from_is x_is is =
+    subst (λ m. Sent n moves text at m (s + 1)) (sym (is ∙ ap next is_s)) (record {
+      long = length-set map.to s x ∙ so_far.long;
+      sent = λ k below set_k.
+          ⊎_elim
+          (λ e. here k e set_k)
+          (λ ne. get_or-set_other map.to s k x 0 ne ∙ so_far.sent k (omega arith) set_k)
+          (cases_eq k s);
+      kept = λ k above. get_or-set_other map.to s k x 0 (omega arith) ∙ so_far.kept k (omega arith);
+    })
+  where
+    next : ℕ → SetMap
+    next k = record { to = set map.to k x }
+
+    here : (k : ℕ) → k ≡ s → to at k < n → to (next s) k ≡ led moves text (to at k)
+    here k e set_k =
+        let same = from_is ∙ ap (to at) (is_s ∙ sym e) in
+        let within : s < length map.to = (let long = so_far.long in omega arith) in
+        ap (to (next s)) e ∙ get_or-set_same map.to s x 0 within ∙ x_is (subst (λ j. j < n) (sym same) set_k) ∙ ap (led moves text) same
 
 module _ (t : Tables) (n : ℕ) (sets moves : List ℕ) (follows : Follows t n sets moves) where
   -- a text leads from set to set as it does from the states of the one to those of the other
