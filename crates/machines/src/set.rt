@@ -77,8 +77,8 @@ impl<'a> SetMachine<'a> {
         let mut map = *at;
         let mut walks = SetMap::identity();
         let mut walked = [false; 64];
-        for s in 0..self.count {
-            let number = SetNo::nth(s);
+        for index in 0..self.count {
+            let number = SetNo::nth(index);
             let from = at.to(number);
             if !walked[usize::from(from)] {
                 walks.set(from, self.walk(from, text));
@@ -123,7 +123,7 @@ impl Folding for SetMachine<'_> {
         let mut map = *at;
         let mut done = 0;
         while done < text.len() {
-            // As long as all before it: the longer a text, the fewer sets it leads to.
+            // As long as all that came before: the longer a text, the fewer sets it leads to.
             let end = (2 * done).max(FIRST_PIECE).min(text.len());
             map = self.onward(&map, &text[done..end]);
             done = end;
