@@ -1,9 +1,7 @@
 // The set machine (the deterministic automaton of the subset construction): a judging machine whose leg
 // of a text is the map of set numbers that the text makes.
-ghost use Rattle.std.specs.Prelude.{◌≡◌, ℕ, ◌+◌, ◌*◌, ◌<◌, ◌↔◌, List, slice_index};
+ghost use Rattle.std.specs.Prelude.{◌≡◌, ◌+◌, ◌*◌, ◌<◌, slice_index};
 ghost use Rattle.folding.specs.Legs.{Extends};
-ghost use Rattle.folding.specs.Texts.{Bytes};
-ghost use Rattle.notation.specs.Expressions.{Regex};
 ghost use Rattle.machines.specs.Place.Shown.Machine.{made_inhabited};
 ghost use Rattle.machines.specs.Place.Tables.{Meant};
 ghost use Rattle.machines.specs.Set.Runs.{led, leg as leg_of};

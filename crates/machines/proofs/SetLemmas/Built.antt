@@ -1,5 +1,5 @@
 -- A machine whose moves follow the tables of a place machine is built over them. Assumes nothing.
-use Rattle.std.proofs.Common.{◌≡◌, ℕ, ◌<◌, List, [], ◌++◌, ◌↔◌, get_or, refl, sym, ap, ap₂, subst, ◌∙◌, arith}
+use Rattle.std.proofs.Common.{◌≡◌, ℕ, List, [], ◌↔◌, get_or, sym, ap, ap₂, subst, ◌∙◌, arith}
 use Rattle.std.proofs.lemmas.List.{append-nil}
 use Rattle.folding.specs.Texts.{Bytes}
 use Rattle.relations.specs.Masks.{Has}
@@ -11,7 +11,7 @@ use Rattle.machines.specs.Place.Tables.{Meant}
 use Rattle.machines.specs.Place.Shown.Machine.{is_leg, meant_matches}
 use Rattle.machines.specs.Place.Shown.Running.{leg_row}
 use Rattle.machines.specs.Set.Built.{SetBuilt}
-use Rattle.machines.specs.Set.Maps.{to, composed}
+use Rattle.machines.specs.Set.Maps.{to}
 use Rattle.machines.specs.Set.Runs.{leg}
 use Rattle.machines.specs.Set.Tables.{Follows}
 use Rattle.machines.proofs.SetLemmas.Composing.{associative}

@@ -1,5 +1,5 @@
 use Rattle.std.specs.Prelude.{Decides}
-use Rattle.std.proofs.Common.{sym, ◌∙◌, refl, subst}
+use Rattle.std.proofs.Common.{sym, refl, subst}
 use Rattle.machines.specs.Place.Runs.{leg}
 use Rattle.machines.specs.Place.Tables.{Meant}
 use Rattle.machines.specs.Place.Shown.Machine.{accepts_decides}

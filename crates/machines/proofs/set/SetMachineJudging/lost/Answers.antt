@@ -1,4 +1,4 @@
-use Rattle.std.proofs.Common.{sym, ◌∙◌, refl, subst}
+use Rattle.std.proofs.Common.{refl}
 use Rattle.machines.specs.Place.Runs.{leg}
 use Rattle.machines.specs.Place.Shown.Machine.{lost_cases}
 use Rattle.machines.proofs.SetLemmas.Built.{judged}
