@@ -4,9 +4,9 @@ ghost use Rattle.std.specs.Prelude.{◌≡◌, ◌+◌, ◌*◌, ◌<◌, slice_
 ghost use Rattle.folding.specs.Legs.{Extends};
 ghost use Rattle.machines.specs.Place.Shown.Machine.{made_inhabited};
 ghost use Rattle.machines.specs.Place.Tables.{Meant};
-ghost use Rattle.machines.specs.Set.Runs.{led, leg as leg_of};
+ghost use Rattle.machines.specs.Set.Runs.{led, transformation};
 ghost use Rattle.machines.specs.Set.Built.{SetBuilt};
-ghost use Rattle.machines.specs.Set.Tables.{SetTables, Follows};
+ghost use Rattle.machines.specs.Set.Tables.{SetTables, Simulates};
 
 // The numbers of its states, the maps of them, and the build of its tables.
 pub mod build;
@@ -29,7 +29,7 @@ pub struct SetMachine<'a> {
     count: usize,
     sets: &'a [u64],
     moves: &'a [u8],
-    ghost follows: { Follows place.tables count sets.now moves.now },
+    ghost simulates: { Simulates place.tables count sets.now moves.now },
 }
 
 impl<'a> SetMachine<'a> {
@@ -70,7 +70,7 @@ impl<'a> SetMachine<'a> {
 
     // Where the text leads from where the map does: one walk for each set that the map leads to.
     fn onward(&self, at: &SetMap, text: &[u8]) -> SetMap
-        ensures extends { Extends (leg_of self.now.count self.now.moves.now) at.now text.now result }
+        ensures extends { Extends (transformation self.now.count self.now.moves.now) at.now text.now result }
     {
         let mut map = *at;
         let mut walks = SetMap::identity();
@@ -98,7 +98,7 @@ impl<'a> SetMachine<'a> {
 impl Folding for SetMachine<'_> {
     type Leg = SetMap;
 
-    ghost leg = { λ m w. leg_of m.count m.moves.now w };
+    ghost leg = { λ m w. transformation m.count m.moves.now w };
 
     fn empty(&self) -> SetMap {
         SetMap::identity()

@@ -24,9 +24,9 @@ none_marked n k =
     (λ le. get_or_past (replicate n false) k false (omega (arith, length-replicate n false)))
     (cases_lt k n)
 
-module _ (n : ℕ) (moves text : List ℕ) (walks walks' : SetMap) (walked walked' : List Bool) (from place : ℕ) (so_far : Walked n moves text walks walked) (is_from : place ≡ from) where
+module _ (n : ℕ) (moves text : List ℕ) (walks walks' : SetMap) (walked walked' : List Bool) (from mark : ℕ) (so_far : Walked n moves text walks walked) (is_from : mark ≡ from) where
   -- one number more, which is marked then
-  pub walked_more : (x : ℕ) → from < 64 → (from < n → x ≡ led moves text from) → walks' ≡ record { to = set walks.to from x } → walked' ≡ set walked place true → Walked n moves text walks' walked' × (get_or walked' from false ≡ true)
+  pub walked_more : (x : ℕ) → from < 64 → (from < n → x ≡ led moves text from) → walks' ≡ record { to = set walks.to from x } → walked' ≡ set walked mark true → Walked n moves text walks' walked' × (get_or walked' from false ≡ true)
   walked_more x low x_is is marked =
       subst (λ b. Walked n moves text walks' b × (get_or b from false ≡ true)) (sym (marked ∙ ap (λ k. set walked k true) is_from)) (
         subst (λ m. Walked n moves text m (set walked from true)) (sym is) (record { long = length-set walks.to from x ∙ so_far.long; marks = length-set walked from true ∙ so_far.marks; right = right }),
@@ -43,7 +43,7 @@ module _ (n : ℕ) (moves text : List ℕ) (walks walks' : SetMap) (walked walke
           (cases_eq k from)
 
   -- one that was marked already
-  pub walked_same : get_or walked place false ≡ true → walks' ≡ walks → walked' ≡ walked → Walked n moves text walks' walked' × (get_or walked' from false ≡ true)
+  pub walked_same : get_or walked mark false ≡ true → walks' ≡ walks → walked' ≡ walked → Walked n moves text walks' walked' × (get_or walked' from false ≡ true)
   walked_same told is marked =
       subst (λ b. Walked n moves text walks' b × (get_or b from false ≡ true)) (sym marked)
       (subst (λ m. Walked n moves text m walked) (sym is) so_far, ap (λ k. get_or walked k false) (sym is_from) ∙ told)

@@ -1,6 +1,6 @@
 use Rattle.std.proofs.Common.{◌≡◌, false, true, get_or, ◌∙◌, arith, rules}
 use Rattle.std.proofs.lemmas.Bool.{both_ways}
-use Rattle.machines.proofs.SetLemmas.Following.{sent_more, sent_on}
+use Rattle.machines.proofs.SetLemmas.Simulating.{sent_more, sent_on}
 use Rattle.machines.proofs.SetLemmas.Walking.{Walked, none_marked, walked_more, walked_same}
 use Rattle.machines.proofs.set.SetMachine.onward.Goals as goal
 use Rattle.machines.proofs.set.SetMachine.onward.Goals.{then-not-walked-from, else-not-walked-from}
@@ -15,7 +15,7 @@ pub loop-index-preserved : goal.loop-index-preserved
 loop-index-preserved c =
     let m = c.args.self.now in
     let text = c.args.text.now in
-    let few = m.follows.1 in
+    let few = m.simulates.1 in
     let from = c.to-from.result in
     let number : c.nth-number.result ≡ c.loop-index.index = (let e = c.nth-number.ensures.value in omega arith) in
     let known : Walked m.count m.moves.now text c.if-not-walked-from.walks c.if-not-walked-from.walked × (get_or c.if-not-walked-from.walked from false ≡ true) =
@@ -35,4 +35,4 @@ loop-index-preserved c =
 pub returns : goal.returns
 returns c =
     let m = c.args.self.now in
-    record { extends = λ w bytes is. sent_on m.place.tables m.count m.sets.now m.moves.now m.follows w c.args.text.now c.args.at.now c.loop-index.map c.loop-index.index bytes is c.loop-index.invariant.0 (omega arith) }
+    record { extends = λ w bytes is. sent_on m.place.tables m.count m.sets.now m.moves.now m.simulates w c.args.text.now c.args.at.now c.loop-index.map c.loop-index.index bytes is c.loop-index.invariant.0 (omega arith) }

@@ -1,4 +1,4 @@
-use Rattle.machines.proofs.SetLemmas.Following.{Sent}
+use Rattle.machines.proofs.SetLemmas.Simulating.{Sent}
 use Rattle.machines.proofs.SetLemmas.Walking.{Walked}
 use Rattle.machines.proofs.set.SetMachine.onward.Given as goal
 
