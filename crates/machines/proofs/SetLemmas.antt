@@ -2,7 +2,7 @@
 pub mod Building
 pub mod Built
 pub mod Composing
-pub mod Following
 pub mod Moving
+pub mod Simulating
 pub mod Tabling
 pub mod Walking

@@ -1,14 +1,12 @@
 // The set machine (the deterministic automaton of the subset construction): a judging machine whose leg
 // of a text is the map of set numbers that the text makes.
-ghost use Rattle.std.specs.Prelude.{◌≡◌, ℕ, ◌+◌, ◌*◌, ◌<◌, ◌↔◌, List, slice_index};
+ghost use Rattle.std.specs.Prelude.{◌≡◌, ◌+◌, ◌*◌, ◌<◌, slice_index};
 ghost use Rattle.folding.specs.Legs.{Extends};
-ghost use Rattle.folding.specs.Texts.{Bytes};
-ghost use Rattle.notation.specs.Expressions.{Regex};
 ghost use Rattle.machines.specs.Place.Shown.Machine.{made_inhabited};
 ghost use Rattle.machines.specs.Place.Tables.{Meant};
-ghost use Rattle.machines.specs.Set.Runs.{led, leg as leg_of};
+ghost use Rattle.machines.specs.Set.Runs.{led, transformation};
 ghost use Rattle.machines.specs.Set.Built.{SetBuilt};
-ghost use Rattle.machines.specs.Set.Tables.{SetTables, Follows};
+ghost use Rattle.machines.specs.Set.Tables.{SetTables, Simulates};
 
 // The numbers of its states, the maps of them, and the build of its tables.
 pub mod build;
@@ -31,7 +29,7 @@ pub struct SetMachine<'a> {
     count: usize,
     sets: &'a [u64],
     moves: &'a [u8],
-    ghost follows: { Follows place.tables count sets.now moves.now },
+    ghost simulates: { Simulates place.tables count sets.now moves.now },
 }
 
 impl<'a> SetMachine<'a> {
@@ -72,13 +70,13 @@ impl<'a> SetMachine<'a> {
 
     // Where the text leads from where the map does: one walk for each set that the map leads to.
     fn onward(&self, at: &SetMap, text: &[u8]) -> SetMap
-        ensures extends { Extends (leg_of self.now.count self.now.moves.now) at.now text.now result }
+        ensures extends { Extends (transformation self.now.count self.now.moves.now) at.now text.now result }
     {
         let mut map = *at;
         let mut walks = SetMap::identity();
         let mut walked = [false; 64];
-        for s in 0..self.count {
-            let number = SetNo::nth(s);
+        for index in 0..self.count {
+            let number = SetNo::nth(index);
             let from = at.to(number);
             if !walked[usize::from(from)] {
                 walks.set(from, self.walk(from, text));
@@ -100,7 +98,7 @@ impl<'a> SetMachine<'a> {
 impl Folding for SetMachine<'_> {
     type Leg = SetMap;
 
-    ghost leg = { λ m w. leg_of m.count m.moves.now w };
+    ghost leg = { λ m w. transformation m.count m.moves.now w };
 
     fn empty(&self) -> SetMap {
         SetMap::identity()
@@ -123,7 +121,7 @@ impl Folding for SetMachine<'_> {
         let mut map = *at;
         let mut done = 0;
         while done < text.len() {
-            // As long as all before it: the longer a text, the fewer sets it leads to.
+            // As long as all that came before: the longer a text, the fewer sets it leads to.
             let end = (2 * done).max(FIRST_PIECE).min(text.len());
             map = self.onward(&map, &text[done..end]);
             done = end;

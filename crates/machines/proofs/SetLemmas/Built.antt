@@ -1,4 +1,4 @@
--- A machine whose moves follow the tables of a place machine is built over them. Assumes nothing.
+-- A machine whose moves simulate a place machine is built over its tables. Assumes nothing.
 use Rattle.std.proofs.Common.{◌≡◌, ℕ, List, [], ◌↔◌, get_or, sym, ap, ap₂, subst, ◌∙◌, arith}
 use Rattle.std.proofs.lemmas.List.{append-nil}
 use Rattle.folding.specs.Texts.{Bytes}
@@ -6,35 +6,35 @@ use Rattle.relations.specs.Masks.{Has}
 use Rattle.relations.specs.Relations.{row}
 use Rattle.machines.specs.declared.place.tables.Tables.{Tables}
 use Rattle.machines.specs.declared.set.map.SetMap.{SetMap}
-use Rattle.machines.specs.Place.Runs.{run, Reaches, leg as place_leg}
+use Rattle.machines.specs.Place.Runs.{run, Reaches, leg}
 use Rattle.machines.specs.Place.Tables.{Meant}
 use Rattle.machines.specs.Place.Shown.Machine.{is_leg, meant_matches}
 use Rattle.machines.specs.Place.Shown.Running.{leg_row}
 use Rattle.machines.specs.Set.Built.{SetBuilt}
 use Rattle.machines.specs.Set.Maps.{to}
-use Rattle.machines.specs.Set.Runs.{leg}
-use Rattle.machines.specs.Set.Tables.{Follows}
+use Rattle.machines.specs.Set.Runs.{transformation}
+use Rattle.machines.specs.Set.Tables.{Simulates}
 use Rattle.machines.proofs.SetLemmas.Composing.{associative}
-use Rattle.machines.proofs.SetLemmas.Following.{leg_set, leg_joined}
+use Rattle.machines.proofs.SetLemmas.Simulating.{leg_set, leg_joined}
 
-module _ (t : Tables) (n : ℕ) (sets moves : List ℕ) (follows : Follows t n sets moves) where
+module _ (t : Tables) (n : ℕ) (sets moves : List ℕ) (simulates : Simulates t n sets moves) where
   -- set 0 is led to the set that is the place machine's row of state 0
-  first_row : (w : List ℕ) → Bytes w → get_or sets (to (leg n moves w) 0) 0 ≡ row (place_leg t w) 0
+  first_row : (w : List ℕ) → Bytes w → get_or sets (to (transformation n moves w) 0) 0 ≡ row (leg t w) 0
   first_row w bytes =
-      (leg_set t n sets moves follows w 0 bytes follows.0).1 ∙ ap (run t w) follows.4 ∙ sym (leg_row t w 0 (omega arith))
+      (leg_set t n sets moves simulates w 0 bytes simulates.0).1 ∙ ap (run t w) simulates.4 ∙ sym (leg_row t w 0 (omega arith))
 
   -- so a machine judges by this row
-  pub judged : (w : List ℕ) → Bytes w → (at : SetMap) → at ≡ leg n moves w → (first number set : ℕ) → first ≡ 0 → number ≡ to at first → set ≡ get_or sets number 0 → set ≡ row (place_leg t w) 0
+  pub judged : (w : List ℕ) → Bytes w → (at : SetMap) → at ≡ transformation n moves w → (first number set : ℕ) → first ≡ 0 → number ≡ to at first → set ≡ get_or sets number 0 → set ≡ row (leg t w) 0
   judged w bytes at is first number set zeroth sent has =
       has ∙ ap (λ k. get_or sets k 0) (sent ∙ ap₂ to is zeroth) ∙ first_row w bytes
 
-  pub built : SetBuilt t n sets (Meant t) (leg n moves)
+  pub built : SetBuilt t n sets (Meant t) (transformation n moves)
   built = record {
-    reaches = λ w bytes s low. leg_set t n sets moves follows w s bytes low;
+    reaches = λ w bytes s low. leg_set t n sets moves simulates w s bytes low;
     from_start = λ e sane of w bytes p.
         subst (λ m. Has m p ↔ Reaches e w 0 p) (sym (first_row w bytes)) (is_leg e sane t of w bytes 0 p (omega arith));
     means = λ e sane of. meant_matches t ∣ (e, sane, of) ∣₁ e sane of;
-    joins = λ v w bytes _. leg_joined t n sets moves follows v w bytes;
-    neutral = λ w bytes. (sym (leg_joined t n sets moves follows [] w tt), sym (leg_joined t n sets moves follows w [] bytes) ∙ ap (leg n moves) (append-nil w));
+    joins = λ v w bytes _. leg_joined t n sets moves simulates v w bytes;
+    neutral = λ w bytes. (sym (leg_joined t n sets moves simulates [] w tt), sym (leg_joined t n sets moves simulates w [] bytes) ∙ ap (transformation n moves) (append-nil w));
     associative = associative;
   }

@@ -3,7 +3,7 @@ use Rattle.std.proofs.Common.{◌≡◌, ℕ, suc, ◌+◌, ◌*◌, ◌<◌, �
 use Rattle.std.proofs.Math.ListN.{drop_of_length-le}
 use Rattle.std.proofs.lemmas.Bool.{lt-ltb, le-ltb, cond-true, cond-false, cond_both}
 use Rattle.machines.specs.Set.Maps.{to, identity}
-use Rattle.machines.specs.Set.Runs.{led, leg}
+use Rattle.machines.specs.Set.Runs.{led, transformation}
 use Rattle.machines.proofs.SetLemmas.Composing.{map_at, same_maps}
 
 pub led_append : (moves v w : List ℕ) (s : ℕ) → led moves (v ++ w) s ≡ led moves w (led moves v s)
@@ -27,12 +27,12 @@ led_all moves text i at le = ap (λ w. led moves w at) (sym (drop_of_length-le t
 
 module _ (n : ℕ) (moves w : List ℕ) (s : ℕ) (low : s < 64) where
   -- what a leg has where there is a set, and where there is none
-  pub leg_at : s < n → to (leg n moves w) s ≡ led moves w s
+  pub leg_at : s < n → to (transformation n moves w) s ≡ led moves w s
   leg_at lt = map_at (λ s. cond (ltb s n) (led moves w s) s) s low ∙ cond-true _ _ _ (lt-ltb s n lt)
 
-  pub leg_past : n ≤ s → to (leg n moves w) s ≡ s
+  pub leg_past : n ≤ s → to (transformation n moves w) s ≡ s
   leg_past le = map_at (λ s. cond (ltb s n) (led moves w s) s) s low ∙ cond-false _ _ _ (le-ltb s n le)
 
-pub leg_none : (n : ℕ) (moves : List ℕ) → identity ≡ leg n moves []
+pub leg_none : (n : ℕ) (moves : List ℕ) → identity ≡ transformation n moves []
 unfolding led
 leg_none n moves = same_maps (λ s. s) (λ s. cond (ltb s n) s s) (λ s low. cond_both (ltb s n) s s (λ x. s ≡ x) (λ yes. refl) (λ no. refl))

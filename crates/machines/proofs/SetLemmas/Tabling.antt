@@ -1,11 +1,11 @@
--- The tables of a numbering lead as the place machine's do. Assumes nothing.
+-- The tables of a numbering simulate the place machine. Assumes nothing.
 use Rattle.std.proofs.Common.{◌≡◌, ℕ, ◌+◌, ◌*◌, ◌<◌, length, take, List, Some, get_or, sym, ap, subst, ◌∙◌, arith}
 use Rattle.std.specs.List.{slice_get}
 use Rattle.std.proofs.lemmas.List.{length-take, length-take-le, get_or-take}
 use Rattle.std.proofs.lemmas.Option.{slice_get_within, get_or_from_slice_get}
 use Rattle.machines.specs.declared.place.tables.Tables.{Tables}
 use Rattle.machines.specs.Place.Runs.{stepped}
-use Rattle.machines.specs.Set.Tables.{start, SetTables, Follows}
+use Rattle.machines.specs.Set.Tables.{start, SetTables, Simulates}
 
 -- what stands among the first n of a list
 front : (n : ℕ) (xs : List ℕ) (k x : ℕ) → slice_get (take n xs) k ≡ Some x → (k < n) × (get_or xs k 0 ≡ x)
@@ -14,8 +14,8 @@ front n xs k x e =
     let low : k < n = omega (arith, length-take n xs) in
     (low, sym (get_or-take n xs k 0 low) ∙ get_or_from_slice_get (take n xs) k x 0 e)
 
-pub tables_follow : (t : Tables) (n : ℕ) (sets moves : List ℕ) → SetTables t n sets moves → Follows t n sets moves
-tables_follow t n sets moves tables = (first.0, tables.few, tables.room, tables.rows, first.1, leads)
+pub tables_simulate : (t : Tables) (n : ℕ) (sets moves : List ℕ) → SetTables t n sets moves → Simulates t n sets moves
+tables_simulate t n sets moves tables = (first.0, tables.few, tables.room, tables.rows, first.1, leads)
   where
     first : (0 < n) × (get_or sets 0 0 ≡ start)
     first = front n sets 0 start tables.numbers.begins

@@ -1,7 +1,7 @@
 -- Where a text leads by the moves of a set machine. Assumes nothing.
 --
---   led moves w s    the number that the text w leads to from set s
---   leg n moves w    the map of numbers that w makes, where there are n sets: a number that no set has stays where it is
+--   led moves w s               the number that the text w leads to from set s
+--   transformation n moves w    the map of numbers that w makes, where there are n sets: a number that no set has stays where it is
 use Rattle.std.specs.Prelude.{ℕ, ◌+◌, ◌*◌, cond, List, [], ◌∷◌, nat_lt, slice_index}
 use Rattle.machines.specs.declared.set.map.SetMap.{SetMap}
 use Rattle.machines.specs.Set.Maps.{map_of}
@@ -10,5 +10,5 @@ unfoldable pub led : List ℕ → List ℕ → ℕ → ℕ
 led moves [] s = s
 led moves (c ∷ w) s = led moves w (slice_index moves (256 * s + c))
 
-abbrev pub leg : ℕ → List ℕ → List ℕ → SetMap
-leg n moves w = record { to = map_of (λ s. cond (nat_lt s n) (led moves w s) s) }
+abbrev pub transformation : ℕ → List ℕ → List ℕ → SetMap
+transformation n moves w = record { to = map_of (λ s. cond (nat_lt s n) (led moves w s) s) }

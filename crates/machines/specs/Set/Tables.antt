@@ -3,6 +3,8 @@
 --   start            the set of state 0 alone, which is set 0
 --   SetTables t n .. the first n of `sets` are the sets that texts reach from `start` by t, numbered in the order of first meeting; entry
 --                    256 * s + c of `moves` is the number of the set that the byte c leads to from set s; what no set uses is 0
+--   Simulates t n .. what a machine over such tables keeps: set 0 is `start`, and each move of the first n sets is to that one of them
+--                    which is the set of states that the byte leads to
 use Rattle.std.specs.Prelude.{◌≡◌, ℕ, ◌+◌, ◌*◌, ◌<◌, ◌≤◌, List, length, take, slice_index}
 use Rattle.numbering.specs.Filling.{Moves, Blank}
 use Rattle.numbering.specs.Numbering.{Numbering}
@@ -21,9 +23,8 @@ pub record SetTables (t : Tables) (n : ℕ) (sets moves : List ℕ) : Type 0 whe
   pub rest : Blank n sets
   pub others : Blank (256 * n) moves
 
--- what a machine over such tables keeps: set 0 is `start`, and each move leads to the set that the byte leads to
-abbrev pub Follows : Tables → ℕ → List ℕ → List ℕ → Type 0
-Follows t n sets moves =
+abbrev pub Simulates : Tables → ℕ → List ℕ → List ℕ → Type 0
+Simulates t n sets moves =
     (1 ≤ n)
     × (n ≤ 64)
     × (length sets ≡ 64)

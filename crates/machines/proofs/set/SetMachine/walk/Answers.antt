@@ -8,7 +8,7 @@ loop-c-preserved c h =
     let i = c.loop-c.c-index in
     let (low, same) = c.loop-c.invariant h in
     let next = c.next-at.ensures.value low in (
-      subst (λ k. k < m.count) (sym next) (m.follows.5 c.loop-c.at (get_or c.args.text.now i 0) low (c.type_inv.text i).fits).0,
+      subst (λ k. k < m.count) (sym next) (m.simulates.5 c.loop-c.at (get_or c.args.text.now i 0) low (c.type_inv.text i).fits).0,
       led_more m.moves.now c.args.text.now i c.loop-c.at c.next-at.result c.loop-c-test.true next ∙ same,
     )
 

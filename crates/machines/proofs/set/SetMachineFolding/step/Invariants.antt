@@ -1,5 +1,5 @@
 use Rattle.std.proofs.Common.{◌∷◌, []}
-use Rattle.machines.proofs.SetLemmas.Following.{Sent}
+use Rattle.machines.proofs.SetLemmas.Simulating.{Sent}
 use Rattle.machines.proofs.set.SetMachineFolding.step.Given as goal
 
 abbrev pub invariant-loop-s : goal.invariant-loop-s
