@@ -3,6 +3,7 @@ pub mod Building
 pub mod Built
 pub mod Composing
 pub mod Moving
+pub mod Reaching
 pub mod Simulating
 pub mod Tabling
 pub mod Walking

@@ -1,3 +1,4 @@
 pub mod Place
+pub mod Reached
 pub mod Set
 pub mod Soundness

@@ -3,4 +3,5 @@ pub mod Building
 pub mod Built
 pub mod Maps
 pub mod Runs
+pub mod Shown
 pub mod Tables

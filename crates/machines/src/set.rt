@@ -1,11 +1,12 @@
 // The set machine (the deterministic automaton of the subset construction): a judging machine whose leg
 // of a text is the map of set numbers that the text makes.
-ghost use Rattle.std.specs.Prelude.{◌≡◌, ◌+◌, ◌*◌, ◌<◌, slice_index};
+ghost use Rattle.std.specs.Prelude.{◌≡◌, ◌+◌, ◌*◌, ◌%◌, ◌<◌, slice_index};
 ghost use Rattle.folding.specs.Legs.{Extends};
 ghost use Rattle.machines.specs.Place.Shown.Machine.{made_inhabited};
 ghost use Rattle.machines.specs.Place.Tables.{Meant};
-ghost use Rattle.machines.specs.Set.Runs.{led, transformation};
+ghost use Rattle.machines.specs.Set.Runs.{led, moved_by, transformation};
 ghost use Rattle.machines.specs.Set.Built.{SetBuilt};
+ghost use Rattle.machines.specs.Set.Shown.{moved_within};
 ghost use Rattle.machines.specs.Set.Tables.{SetTables, Simulates};
 
 // The numbers of its states, the maps of them, and the build of its tables.
@@ -17,6 +18,7 @@ use crate::place::PlaceMachine;
 use crate::set::map::SetMap;
 use crate::set::setno::SetNo;
 use folding::fold::{Folding, Judging};
+use starts::Automaton;
 
 // How many bytes `extend` walks first, from every set.
 const FIRST_PIECE: usize = 16;
@@ -52,6 +54,7 @@ impl<'a> SetMachine<'a> {
 
     // Where the byte leads from a set.
     pub fn next(&self, from: SetNo, c: u8) -> SetNo
+        ensures entry { result ≡ moved_by self.now.moves.now from c }
         ensures value { from < self.now.count → result ≡ slice_index self.now.moves.now (256 * from + c) }
     {
         SetNo::nth(usize::from(self.moves[256 * usize::from(from) + usize::from(c)]))
@@ -142,4 +145,50 @@ impl Judging for SetMachine<'_> {
     fn lost(&self, at: &SetMap) -> bool {
         self.set(at.to(SetNo::start())) == 0
     }
+}
+
+// The set machine as a machine with one move for each state and byte.
+impl Automaton for SetMachine<'_> {
+    type State = SetNo;
+
+    ghost number = { λ s. s };
+
+    ghost count = { λ m. m.count };
+
+    ghost moved = { λ m s c. moved_by m.moves.now s c };
+
+    ghost means = { λ m w. Meant m.place.tables w };
+
+    fn state(index: usize) -> SetNo
+        ensures value { result ≡ index % 64 }
+    {
+        SetNo::nth(index)
+    }
+
+    fn index(state: SetNo) -> usize
+        ensures value { result ≡ state }
+        ensures few { result < 64 }
+    {
+        usize::from(state)
+    }
+
+    fn states(&self) -> usize {
+        self.count
+    }
+
+    fn next(&self, from: SetNo, c: u8) -> SetNo {
+        self.next(from, c)
+    }
+
+    fn accepting(&self, at: SetNo) -> bool {
+        self.place.accepting(self.set(at))
+    }
+
+    fn dead(&self, at: SetNo) -> bool {
+        self.set(at) == 0
+    }
+
+    ghost closed = { λ m s c low byte. moved_within m.place.tables m.count m.sets.now m.moves.now m.simulates s c low byte };
+
+    ghost inhabited = { λ m. made_inhabited m.place.tables m.place.made };
 }

@@ -10,12 +10,13 @@ use Rattle.machines.specs.Place.Runs.{run, Reaches, leg}
 use Rattle.machines.specs.Place.Tables.{Meant}
 use Rattle.machines.specs.Place.Shown.Machine.{is_leg, meant_matches}
 use Rattle.machines.specs.Place.Shown.Running.{leg_row}
+use Rattle.starts.specs.Automata.{led as led_by}
 use Rattle.machines.specs.Set.Built.{SetBuilt}
 use Rattle.machines.specs.Set.Maps.{to}
-use Rattle.machines.specs.Set.Runs.{transformation}
+use Rattle.machines.specs.Set.Runs.{moved_by, transformation}
 use Rattle.machines.specs.Set.Tables.{Simulates}
 use Rattle.machines.proofs.SetLemmas.Composing.{associative}
-use Rattle.machines.proofs.SetLemmas.Simulating.{leg_set, leg_joined}
+use Rattle.machines.proofs.SetLemmas.Simulating.{same_led, led_set, leg_set, leg_joined}
 
 module _ (t : Tables) (n : ℕ) (sets moves : List ℕ) (simulates : Simulates t n sets moves) where
   -- set 0 is led to the set that is the place machine's row of state 0
@@ -27,6 +28,12 @@ module _ (t : Tables) (n : ℕ) (sets moves : List ℕ) (simulates : Simulates t
   pub judged : (w : List ℕ) → Bytes w → (at : SetMap) → at ≡ transformation n moves w → (first number set : ℕ) → first ≡ 0 → number ≡ to at first → set ≡ get_or sets number 0 → set ≡ row (leg t w) 0
   judged w bytes at is first number set zeroth sent has =
       has ∙ ap (λ k. get_or sets k 0) (sent ∙ ap₂ to is zeroth) ∙ first_row w bytes
+
+  -- by single moves a text leads from set 0 to the set of that row
+  pub moved_row : (w : List ℕ) → Bytes w → (at set : ℕ) → at ≡ led_by (moved_by moves) w 0 → set ≡ get_or sets at 0 → set ≡ row (leg t w) 0
+  moved_row w bytes at set is has =
+      has ∙ ap (λ k. get_or sets k 0) (is ∙ same_led t n sets moves simulates w 0 bytes simulates.0)
+      ∙ (led_set t n sets moves simulates w 0 bytes simulates.0).1 ∙ ap (run t w) simulates.4 ∙ sym (leg_row t w 0 (omega arith))
 
   pub built : SetBuilt t n sets (Meant t) (transformation n moves)
   built = record {

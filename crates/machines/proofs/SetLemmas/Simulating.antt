@@ -6,8 +6,10 @@ use Rattle.folding.specs.Texts.{Bytes}
 use Rattle.machines.specs.declared.place.tables.Tables.{Tables}
 use Rattle.machines.specs.declared.set.map.SetMap.{SetMap}
 use Rattle.machines.specs.Place.Runs.{run}
+use Rattle.starts.specs.Automata.{led as led_by}
 use Rattle.machines.specs.Set.Maps.{to, composed}
-use Rattle.machines.specs.Set.Runs.{led, transformation}
+use Rattle.machines.specs.Set.Runs.{led, moved_by, transformation}
+use Rattle.machines.specs.Set.Shown.{moved_entry}
 use Rattle.machines.specs.Set.Tables.{Simulates}
 use Rattle.machines.proofs.SetLemmas.Composing.{map_by, map_at, length_map}
 use Rattle.machines.proofs.SetLemmas.Moving.{led_append, leg_at, leg_past}
@@ -49,6 +51,14 @@ module _ (t : Tables) (n : ℕ) (sets moves : List ℕ) (simulates : Simulates t
       let (next, same) = simulates.5 s c low bytes.0 in
       let (last, runs) = led_set w _ bytes.1 next in
       (last, runs ∙ ap (run t w) same)
+
+  -- taken as numbers of sets, the moves lead where they lead as entries
+  pub same_led : (w : List ℕ) (s : ℕ) → Bytes w → s < n → led_by (moved_by moves) w s ≡ led moves w s
+  unfolding led led_by
+  same_led [] s bytes low = refl
+  same_led (c ∷ w) s bytes low =
+      let next = (simulates.5 s c low bytes.0).0 in
+      ap (led_by (moved_by moves) w) (moved_entry t n sets moves simulates s c low bytes.0) ∙ same_led w _ bytes.1 next
 
   pub leg_set : (w : List ℕ) (s : ℕ) → Bytes w → s < n → (to (transformation n moves w) s < n) × (get_or sets (to (transformation n moves w) s) 0 ≡ run t w (get_or sets s 0))
   leg_set w s bytes low =

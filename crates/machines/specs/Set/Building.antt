@@ -1,6 +1,6 @@
 -- What the build of the set machine's tables answers, and what it leaves in the two tables that it is lent. Assumes nothing.
 --
---   MoreSets t                     more than 64 different sets of states are reached by the tables t
+--   MoreMasks t                     more than 64 different sets of states are reached by the tables t
 --   SetsGranted t n sets moves     there are n sets, which is not more than 64, and the tables are theirs
 --   SetsRefused t .. f ..          the fault f, by the tables that were lent and what is left in them: the wrong length of the sets first, then that of
 --                                  the moves, and nothing has changed; or more than 64 sets, and both tables are all zero
@@ -17,14 +17,14 @@ use Rattle.machines.specs.Set.Tables.{start, SetTables}
 abbrev pub refused : Refusal → ℕ → Fault
 refused r at = record { refusal = r; layer = Build; place = at }
 
-abbrev pub MoreSets : Tables → Type 0
-MoreSets t = MoreThan 64 start (stepped t)
+abbrev pub MoreMasks : Tables → Type 0
+MoreMasks t = MoreThan 64 start (stepped t)
 
 abbrev pub SetsGranted : Tables → ℕ → List ℕ → List ℕ → Type 0
-SetsGranted t n sets moves = (MoreSets t → ⊥) × SetTables t n sets moves
+SetsGranted t n sets moves = (MoreMasks t → ⊥) × SetTables t n sets moves
 
 abbrev pub SetsRefused : Tables → List ℕ → List ℕ → Fault → List ℕ → List ℕ → Type 0
 SetsRefused t sets moves f sets' moves' =
     ((length sets ≢ 64) × (f ≡ refused TableLength 0) × (sets' ≡ sets) × (moves' ≡ moves))
     ⊎ ((length sets ≡ 64) × (length moves ≢ 16384) × (f ≡ refused TableLength 1) × (sets' ≡ sets) × (moves' ≡ moves))
-    ⊎ ((length sets ≡ 64) × (length moves ≡ 16384) × MoreSets t × (f ≡ refused TooManySets 0) × (sets' ≡ replicate 64 0) × (moves' ≡ replicate 16384 0))
+    ⊎ ((length sets ≡ 64) × (length moves ≡ 16384) × MoreMasks t × (f ≡ refused TooManySets 0) × (sets' ≡ replicate 64 0) × (moves' ≡ replicate 16384 0))

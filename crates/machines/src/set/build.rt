@@ -1,8 +1,12 @@
 // The tables of the set machine over a place machine.
-ghost use Rattle.std.specs.Prelude.{◌≡◌, length, replicate, MatchResult};
+ghost use Rattle.std.specs.Prelude.{◌≡◌, ◌↔◌, length, replicate, MatchResult};
 ghost use Rattle.machines.specs.Place.Runs.{stepped};
-ghost use Rattle.machines.specs.Set.Building.{SetsGranted, SetsRefused};
+ghost use Rattle.machines.specs.Set.Building.{MoreMasks, SetsGranted, SetsRefused};
+ghost use Rattle.machines.specs.Place.Tables.{TablesOf};
+ghost use Rattle.machines.specs.Reached.{MoreSets};
 ghost use Rattle.machines.specs.Set.Tables.{start};
+ghost use Rattle.machines.specs.Soundness.{Sane};
+ghost use Rattle.notation.specs.Expressions.{Regex};
 ghost use Rattle.numbering.specs.Laws.{NumberingLaws};
 
 use crate::place::PlaceMachine;
@@ -40,6 +44,7 @@ impl Space<u64> for PlaceMachine {
 // untouched where they have another length.
 pub fn build_sets(place: &PlaceMachine, sets: &mut [u64], moves: &mut [u8]) -> Result<usize, Fault>
     ensures outcome { MatchResult result (λ n. SetsGranted place.now.tables n sets.new moves.new) (λ f. SetsRefused place.now.tables sets.old moves.old f sets.new moves.new) }
+    ensures reached { (e : Regex) → Sane e → TablesOf e place.now.tables → MoreMasks place.now.tables ↔ MoreSets 64 e }
     ensures laws { NumberingLaws start (stepped place.now.tables) }
 {
     if sets.len() != SETS {

@@ -5,6 +5,7 @@ use Rattle.machines.specs.Set.Tables.{start}
 use Rattle.numbering.specs.Reaching.{MoreThan}
 use Rattle.numbering.proofs.Numbers.{numbering_laws}
 use Rattle.machines.proofs.SetLemmas.Building.{granted}
+use Rattle.machines.proofs.SetLemmas.Reaching.{more_sets}
 use Rattle.machines.proofs.set.build.build_sets.Goals as goal
 
 pub returns-then-sets-ne-SETS-clause-laws : goal.returns-then-sets-ne-SETS-clause-laws
@@ -39,3 +40,15 @@ returns-in-None-clause-outcome c =
       c.blank-in-None.ensures.sets ∙ ap (λ n. replicate n 0) (c.number.auto.cells ∙ long),
       c.blank-in-None.ensures.moves ∙ ap (λ n. replicate n 0) (c.number.auto.moves ∙ rows),
     ))
+
+pub returns-then-sets-ne-SETS-clause-reached : goal.returns-then-sets-ne-SETS-clause-reached
+returns-then-sets-ne-SETS-clause-reached c e sane of = more_sets e sane c.args.place.now.tables of
+
+pub returns-then-moves-ne-MOVES-clause-reached : goal.returns-then-moves-ne-MOVES-clause-reached
+returns-then-moves-ne-MOVES-clause-reached c e sane of = more_sets e sane c.args.place.now.tables of
+
+pub returns-in-Some-clause-reached : goal.returns-in-Some-clause-reached
+returns-in-Some-clause-reached c e sane of = more_sets e sane c.args.place.now.tables of
+
+pub returns-in-None-clause-reached : goal.returns-in-None-clause-reached
+returns-in-None-clause-reached c e sane of = more_sets e sane c.args.place.now.tables of
