@@ -5,5 +5,6 @@ pub mod Composing
 pub mod Moving
 pub mod Reaching
 pub mod Simulating
+pub mod Starting
 pub mod Tabling
 pub mod Walking

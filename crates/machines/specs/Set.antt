@@ -4,4 +4,5 @@ pub mod Built
 pub mod Maps
 pub mod Runs
 pub mod Shown
+pub mod Starting
 pub mod Tables

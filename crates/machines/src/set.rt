@@ -7,6 +7,7 @@ ghost use Rattle.machines.specs.Place.Tables.{Meant};
 ghost use Rattle.machines.specs.Set.Runs.{led, moved_by, transformation};
 ghost use Rattle.machines.specs.Set.Built.{SetBuilt};
 ghost use Rattle.machines.specs.Set.Shown.{moved_within};
+ghost use Rattle.machines.specs.Set.Starting.{StartsReached};
 ghost use Rattle.machines.specs.Set.Tables.{SetTables, Simulates};
 
 // The numbers of its states, the maps of them, and the build of its tables.
@@ -42,6 +43,7 @@ impl<'a> SetMachine<'a> {
         moves: &'a [u8],
     ) -> SetMachine<'a>
         requires tables { SetTables place.tables count sets.now moves.now }
+        ensures starts { StartsReached place.tables count moves.now }
         ensures built { SetBuilt place.tables count sets.now (⟦<SetMachine<'a> as Judging>⟧.means result) (⟦<SetMachine<'a> as Folding>⟧.leg result) }
     {
         SetMachine {
@@ -187,6 +189,8 @@ impl Automaton for SetMachine<'_> {
     fn dead(&self, at: SetNo) -> bool {
         self.set(at) == 0
     }
+
+    ghost few = { λ m. (m.simulates.0, m.simulates.1) };
 
     ghost closed = { λ m s c low byte. moved_within m.place.tables m.count m.sets.now m.moves.now m.simulates s c low byte };
 

@@ -2,7 +2,7 @@ mod Agreeing
 pub mod Counting
 mod Fitting
 mod Liking
-mod Listing
+pub mod Listing
 mod Meeting
 pub mod Numbers
 mod Reached
