@@ -66,7 +66,8 @@ impl Point for StateMap {
 
     fn get(cells: &[u8], number: usize) -> Option<StateMap> {
         let (rows, _) = cells.as_chunks::<64>();
-        rows.get(number).map(|row| StateMap { to: *row })
+        let row = rows.get(number)?;
+        Some(StateMap { to: *row })
     }
 
     fn find(&self, cells: &[u8], count: usize) -> Option<usize> {
