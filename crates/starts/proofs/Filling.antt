@@ -1,6 +1,6 @@
 -- Maps that are filled entry by entry. Assumes nothing.
-use Rattle.std.proofs.Common.{◌≡◌, ℕ, ◌+◌, ◌<◌, ◌≤◌, List, cond, ltb, length, min, replicate, get_or, slice_set, length-set, refl, sym, ap, ◌∙◌, ⊎_elim, arith}
-use Rattle.std.proofs.lemmas.Bool.{cases_eq, cases_lt, lt-ltb, le-ltb, cond-true, cond-false, cond_below, cond_above}
+use Rattle.std.proofs.Common.{◌≡◌, ℕ, ◌+◌, ◌<◌, List, cond, ltb, length, min, replicate, get_or, slice_set, length-set, sym, ◌∙◌, ⊎_elim, arith}
+use Rattle.std.proofs.lemmas.Bool.{cases_eq, cases_lt, lt-ltb, le-ltb, cond-true, cond-false}
 use Rattle.std.proofs.lemmas.List.{length-replicate, get_or-replicate, get_or-set_same, get_or-set_other}
 use Rattle.std.proofs.lemmas.List.FromFn.{fill_by_all}
 use Rattle.starts.specs.Maps.{map_of, moved_by, to}
@@ -36,12 +36,12 @@ pub filled_all : (f : ℕ → ℕ) (n upto : ℕ) (to : List ℕ) → Filled f u
 unfolding map_of
 filled_all f n upto to filled all i = record {
   to = fill_by_all (λ s. cond (ltb s n) (f s) 0) to 64 0 filled.long
-  (λ k lt.
-  filled.at k lt
-  ∙ ⊎_elim
-  (λ below. cond-true _ _ _ (lt-ltb k upto (omega arith)) ∙ sym (cond-true _ _ _ (lt-ltb k n below)))
-  (λ above. cond-false _ _ _ (le-ltb k upto (omega arith)) ∙ sym (cond-false _ _ _ (le-ltb k n above)))
-  (cases_lt k n)) i;
+      (λ k lt.
+      filled.at k lt
+      ∙ ⊎_elim
+      (λ below. cond-true _ _ _ (lt-ltb k upto (omega arith)) ∙ sym (cond-true _ _ _ (lt-ltb k n below)))
+      (λ above. cond-false _ _ _ (le-ltb k upto (omega arith)) ∙ sym (cond-false _ _ _ (le-ltb k n above)))
+      (cases_lt k n)) i;
 }
 
 -- bytes that lead alike from each state make one map of each

@@ -1,4 +1,4 @@
-use Rattle.std.proofs.Common.{◌≡◌, ◌%◌, ◌∙◌, ap, arith}
+use Rattle.std.proofs.Common.{◌≡◌, ◌%◌, arith}
 use Rattle.starts.specs.Maps.{to}
 use Rattle.starts.proofs.Filling.{filled_none, filled_more, filled_all}
 use Rattle.starts.proofs.statemap.StateMap.step.Goals as goal
@@ -12,7 +12,7 @@ loop-s-preserved g c =
     let few = c.states-s-end.ensures.few.1 in
     let from : c.to.result % 64 ≡ to c.args.self.now c.loop-s.s = omega (arith, c.to.ensures.value) in
     filled_more (λ s. g.A.Automaton.moved c.args.automaton.now (to c.args.self.now s) c.args.c) c.loop-s.s c.loop-s.to _ (omega arith) c.loop-s.invariant
-    (c.index.ensures.value ∙ c.next.ensures.value ∙ ap (λ s. g.A.Automaton.moved c.args.automaton.now s c.args.c) (c.state.ensures.value ∙ from))
+    (rw (c.index.ensures.value, c.next.ensures.value, c.state.ensures.value, from))
 
 pub returns : goal.returns
 returns g c =

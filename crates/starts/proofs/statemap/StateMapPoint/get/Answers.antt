@@ -1,4 +1,4 @@
-use Rattle.std.proofs.Common.{◌≡◌, ◌∙◌, rules, sym, arith}
+use Rattle.std.proofs.Common.{◌∙◌, sym, arith}
 use Rattle.starts.proofs.Rows.{row_past, held}
 use Rattle.starts.proofs.statemap.StateMapPoint.get.Goals as goal
 
