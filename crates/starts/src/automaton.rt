@@ -39,6 +39,8 @@ pub trait Automaton {
     fn dead(&self, at: Self::State) -> bool
         ensures cases { (w : List ℕ) → Bytes w → number at ≡ led (moved self.now) w 0 → MatchBool result (Lost (means self.now) w) (Hopeful (means self.now) w) };
 
+    ghost few: { (m : Self) → (1 ≤ count m) × (count m ≤ 64) };
+
     ghost closed: { (m : Self) (s c : ℕ) → s < count m → c < 256 → moved m s c < count m };
 
     ghost inhabited: { (m : Self) → Hopeful (means m) [] };

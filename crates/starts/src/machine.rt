@@ -1,6 +1,8 @@
 // The start machine (the automaton of the transformations that texts make): a judging machine whose leg
 // of a text is one number, and whose step is one look-up.
 ghost use Rattle.std.specs.Prelude.{◌≡◌, ◌<◌, ◌≤◌, slice_index, List, ℕ};
+ghost use Rattle.folding.specs.Texts.{Bytes};
+ghost use Rattle.starts.specs.Automata.{led};
 ghost use Rattle.starts.specs.Runs.{leg as leg_of, move_of, StartBuilt};
 ghost use Rattle.starts.specs.Starts.{row as row_of, StartTables, Follows};
 
@@ -61,7 +63,9 @@ impl<'a, A: Automaton> StartMachine<'a, A> {
     }
 
     // The number of the state that texts of this leg lead to.
-    fn state(&self, at: StartNo) -> A::State {
+    fn state(&self, at: StartNo) -> A::State
+        ensures value { (w : List ℕ) → Bytes w → at ≡ leg_of self.now.moves.now w → A.number result ≡ led (A.moved self.now.automaton.now) w 0 }
+    {
         A::state(self.map(at).to(0))
     }
 }
