@@ -1,1 +1,2 @@
+mod Meaning
 mod Wholly

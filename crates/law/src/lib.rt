@@ -1,12 +1,14 @@
 // Where patterns, machines and rolls meet: the machines of a pattern, and the whole law with each.
 #![tactic(auto)]
 
-ghost use Rattle.law.specs.Whole.{OfPattern, Whole};
+ghost use Rattle.law.specs.Whole.{Every, OfPattern, Whole};
 ghost use Rattle.machines.specs.Set.Tables.{SetTables};
+ghost use Rattle.starts.specs.Starts.{StartTables};
 
 use folding::fold::{Folding, Judging};
 use machines::{PlaceMachine, SetMachine};
 use pattern::Pattern;
+use starts::{Automaton, StartMachine};
 
 // The place machine of a pattern that was read. `whole` is what the library is for: it speaks of this
 // machine, of every run of a roll under it, and of any run of another roll, under a machine of kind O
@@ -35,4 +37,23 @@ pub fn set_machine_of<'a, O: Judging>(
         (O.Folding.leg o) (O.Judging.means o) }
 {
     SetMachine::new(place, count, sets, moves)
+}
+
+// The start machine of the same pattern, over the tables that a granted build left. `every` says of all
+// three kinds of machine what `whole` says of this one: that it means what its pattern means.
+pub fn start_machine_of<'a, O: Judging>(
+    pattern: &Pattern,
+    set: &'a SetMachine<'a>,
+    count: usize,
+    maps: &'a [u8],
+    moves: &'a [u16],
+) -> StartMachine<'a, SetMachine<'a>>
+    requires of { OfPattern pattern.now set.now.place.tables }
+    requires tables { StartTables (⟦<SetMachine<'a> as Automaton>⟧.count set.now) (⟦<SetMachine<'a> as Automaton>⟧.moved set.now) count maps.now moves.now }
+    ensures whole { (o : O)
+        → Whole pattern.now (⟦<StartMachine<'a, SetMachine<'a>> as Folding>⟧.leg result) (⟦<StartMachine<'a, SetMachine<'a>> as Judging>⟧.means result)
+        (O.Folding.leg o) (O.Judging.means o) }
+    ensures every { Every (λ m. m.automaton.now) (⟦<PlaceMachine as Judging>⟧.means) (⟦<SetMachine<'a> as Judging>⟧.means) (⟦<StartMachine<'a, SetMachine<'a>> as Judging>⟧.means) }
+{
+    StartMachine::new(set, count, maps, moves)
 }
