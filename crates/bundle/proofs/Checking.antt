@@ -5,7 +5,8 @@ use Rattle.fault.specs.declared.Fault.{Fault}
 use Rattle.notation.specs.Meaning.{Matches}
 use Rattle.notation.specs.Reading.{ReadAs, Granted, Refused}
 use Rattle.law.specs.Whole.{MeansPattern}
-use Rattle.bundle.specs.Checks.{Checked}
+use Rattle.notation.specs.Expressions.{Regex}
+use Rattle.bundle.specs.Checks.{Checked, Judged}
 use Rattle.bundle.specs.Layout.{Piece, OfBytes}
 use Rattle.bundle.specs.Outcome.{opened, filed, Reported}
 use Rattle.bundle.specs.declared.report.Report.{Report}
@@ -15,8 +16,7 @@ use Rattle.bundle.proofs.Exchanging.{reported_same}
 pub read_refused : (p q : List ℕ) (ss : List Piece) (r : Result Report Fault) (f g : Fault) → q ≡ p → Refused q f → r ≡ Err g → g ≡ f → Checked p ss r
 read_refused p q ss r f g same refused is e = inl (f, subst (λ x. Refused x f) same refused, is ∙ (λ i. Err (e i)))
 
--- `held` is what the record holds, and `ts` the strips that were filed
-pub read_granted : (p q held : List ℕ) (n : ℕ) (ss ts : List Piece) (r : Result Report Fault) (M : List ℕ → Type 0) → q ≡ p → Granted q n → held ≡ q → MeansPattern held M → ts ≡ ss → AllByRecursion OfBytes ss → Reported M (filed opened ts) r → Checked p ss r
-read_granted p q held n ss ts r M same (e, read, _) holds means filing of report =
-    let exactly = means e (subst (λ x. ReadAs x e) (sym holds) read) in
-    inr (e, subst (λ x. ReadAs x e) same read, reported_same M (Matches e) exactly ss r of (subst (λ x. Reported M (filed opened x) r) filing report))
+-- `held` is what the record holds, and `ts` the strips that were handed on
+pub read_granted : (p q held : List ℕ) (n : ℕ) (ss ts : List Piece) (r : Result Report Fault) → q ≡ p → Granted q n → held ≡ q → ts ≡ ss → ((e : Regex) → ReadAs held e → Judged e ts r) → Checked p ss r
+read_granted p q held n ss ts r same (e, read, _) holds filing judged =
+    inr (e, subst (λ x. ReadAs x e) same read, subst (λ x. Judged e x r) filing (judged e (subst (λ x. ReadAs x e) (sym holds) read)))

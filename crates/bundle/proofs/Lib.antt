@@ -1,3 +1,4 @@
+mod Building
 pub mod Checking
 pub mod Cuts
 pub mod Deciding

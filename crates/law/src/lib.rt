@@ -2,6 +2,7 @@
 #![tactic(auto)]
 
 ghost use Rattle.law.specs.Whole.{Every, OfPattern, Whole};
+ghost use Rattle.machines.specs.Set.Starting.{StartsReached};
 ghost use Rattle.machines.specs.Set.Tables.{SetTables};
 ghost use Rattle.starts.specs.Starts.{StartTables};
 
@@ -32,6 +33,8 @@ pub fn set_machine_of<'a, O: Judging>(
 ) -> SetMachine<'a>
     requires of { OfPattern pattern.now place.tables }
     requires tables { SetTables place.tables count sets.now moves.now }
+    ensures of { OfPattern pattern.now result.place.tables }
+    ensures starts { StartsReached result.place.tables result.count result.moves.now }
     ensures whole { (o : O)
         → Whole pattern.now (⟦<SetMachine<'a> as Folding>⟧.leg result) (⟦<SetMachine<'a> as Judging>⟧.means result)
         (O.Folding.leg o) (O.Judging.means o) }

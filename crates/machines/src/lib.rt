@@ -10,3 +10,4 @@ pub mod set;
 pub use crate::place::PlaceMachine;
 pub use crate::place::build::build;
 pub use crate::set::SetMachine;
+pub use crate::set::build::build_sets;

@@ -43,7 +43,8 @@ impl<'a> SetMachine<'a> {
         moves: &'a [u8],
     ) -> SetMachine<'a>
         requires tables { SetTables place.tables count sets.now moves.now }
-        ensures starts { StartsReached place.tables count moves.now }
+        ensures place { result.place ≡ place }
+        ensures starts { StartsReached result.place.tables result.count result.moves.now }
         ensures built { SetBuilt place.tables count sets.now (⟦<SetMachine<'a> as Judging>⟧.means result) (⟦<SetMachine<'a> as Folding>⟧.leg result) }
     {
         SetMachine {
