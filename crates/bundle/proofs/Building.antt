@@ -4,7 +4,7 @@ use Rattle.fault.specs.declared.Fault.{Fault}
 use Rattle.fault.specs.declared.Refusal.TheVariants.{TooManySets, TooManyStarts}
 use Rattle.machines.specs.declared.place.tables.Tables.{Tables}
 use Rattle.machines.specs.Set.Building.{MoreMasks, SetsRefused}
-use Rattle.starts.specs.Building.{MoreStarts, StartsRefused, HasRows}
+use Rattle.starts.specs.Building.{MoreStarts, StartsRefused}
 use Rattle.bundle.specs.Checks.{unbuilt}
 
 pub sets_refused : (t : Tables) (sets moves sets' moves' : List ℕ) (f : Fault) → length sets ≡ 64 → length moves ≡ 16384 → SetsRefused t sets moves f sets' moves' → MoreMasks t × (f ≡ unbuilt TooManySets 0)

@@ -1,16 +1,11 @@
 -- What a bundle's pattern and strips come to, once the pattern is read or refused. Assumes nothing.
 use Rattle.std.proofs.Common.{◌≡◌, ℕ, List, Err, Result, sym, ◌∙◌, subst, inl, inr}
-use Rattle.std.specs.List.{AllByRecursion}
 use Rattle.fault.specs.declared.Fault.{Fault}
-use Rattle.notation.specs.Meaning.{Matches}
 use Rattle.notation.specs.Reading.{ReadAs, Granted, Refused}
-use Rattle.law.specs.Whole.{MeansPattern}
 use Rattle.notation.specs.Expressions.{Regex}
 use Rattle.bundle.specs.Checks.{Checked, Judged}
-use Rattle.bundle.specs.Layout.{Piece, OfBytes}
-use Rattle.bundle.specs.Outcome.{opened, filed, Reported}
+use Rattle.bundle.specs.Layout.{Piece}
 use Rattle.bundle.specs.declared.report.Report.{Report}
-use Rattle.bundle.proofs.Exchanging.{reported_same}
 
 -- q is what was read: the pattern that the bundle handed out
 pub read_refused : (p q : List ℕ) (ss : List Piece) (r : Result Report Fault) (f g : Fault) → q ≡ p → Refused q f → r ≡ Err g → g ≡ f → Checked p ss r

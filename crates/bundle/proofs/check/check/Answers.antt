@@ -1,4 +1,4 @@
-use Rattle.std.proofs.Common.{◌≡◌, ℕ, ◌∙◌, Err, ap, inl, inr, refl, subst, sym}
+use Rattle.std.proofs.Common.{ℕ, ◌∙◌, Err, ap, inl, inr, refl, subst, sym}
 use Rattle.std.proofs.lemmas.List.{length-replicate}
 use Rattle.std.proofs.lemmas.Result.{err_from_is_err_and}
 use Rattle.std.specs.List.{AllByRecursion}
@@ -20,10 +20,18 @@ returns-in_err-count c =
     let bundle = c.in_ok-bundle.ensures.cases in
     let read = c.in_ok-read.ensures.cases in
     record {
-      outcome = inr (bundle.0, (_, _, bundle.1, read_granted _ _ _ _ (strips_of c.in_ok-bundle.bundle) _ _ c.pattern.ensures.value read.0 read.1 refl (λ e read'.
-          let is = c.machine_of-place.ensures.of.1 e read'.written in
-          let refused = sets_refused c.machine_of-place.result.tables _ _ _ _ _ (length-replicate {A = ℕ} 64 0) (length-replicate {A = ℕ} 16384 0) c.in_err-count.ensures.outcome in
-          inl ((c.in_err-count.ensures.reached e is.0 is.1).0 refused.0, p.1 ∙ ap Err (p.2 ∙ refused.1)))));
+      outcome = inr (
+        bundle.0,
+        (
+          _,
+          _,
+          bundle.1,
+          read_granted _ _ _ _ (strips_of c.in_ok-bundle.bundle) _ _ c.pattern.ensures.value read.0 read.1 refl (λ e read'.
+              let is = c.machine_of-place.ensures.of.1 e read'.written in
+              let refused = sets_refused c.machine_of-place.result.tables _ _ _ _ _ (length-replicate {A = ℕ} 64 0) (length-replicate {A = ℕ} 16384 0) c.in_err-count.ensures.outcome in
+              inl ((c.in_err-count.ensures.reached e is.0 is.1).0 refused.0, p.1 ∙ ap Err (p.2 ∙ refused.1))),
+        ),
+      );
     }
 
 pub returns : goal.returns
@@ -31,7 +39,15 @@ returns c =
     let bundle = c.in_ok-bundle.ensures.cases in
     let read = c.in_ok-read.ensures.cases in
     record {
-      outcome = inr (bundle.0, (_, _, bundle.1, read_granted _ _ _ _ _ _ _ c.pattern.ensures.value read.0 read.1 c.strips.ensures.value (λ e read'.
-          let is = c.machine_of-place.ensures.of.1 e read'.written in
-          inr (λ more. c.in_ok-count.ensures.outcome.0 ((c.in_ok-count.ensures.reached e is.0 is.1).1 more), c.judge.ensures.started e read' (subst (AllByRecursion OfBytes) (sym c.strips.ensures.value) c.in_ok-bundle.ensures.bytes.1)))));
+      outcome = inr (
+        bundle.0,
+        (
+          _,
+          _,
+          bundle.1,
+          read_granted _ _ _ _ _ _ _ c.pattern.ensures.value read.0 read.1 c.strips.ensures.value (λ e read'.
+              let is = c.machine_of-place.ensures.of.1 e read'.written in
+              inr (λ more. c.in_ok-count.ensures.outcome.0 ((c.in_ok-count.ensures.reached e is.0 is.1).1 more), c.judge.ensures.started e read' (subst (AllByRecursion OfBytes) (sym c.strips.ensures.value) c.in_ok-bundle.ensures.bytes.1))),
+        ),
+      );
     }

@@ -26,7 +26,8 @@ returns c =
       started = λ e read of.
           let is = c.requires.of.1 e read.written in
           let whole = c.start_machine_of-machine.ensures.whole c.args.set.now.place in
-          inr
-          ((λ more. c.in_ok-count.ensures.outcome.0 (subst (MoreStarts c.args.set.now.count (moved_by c.args.set.now.moves.now)) (sym rows) ((c.requires.starts e is.0 is.1 96).1 more))),
-          reported_same _ (Matches e) (whole.means e read) (left c.args.strips) _ of c.report.ensures.reported);
+          inr (
+            (λ more. c.in_ok-count.ensures.outcome.0 (subst (MoreStarts c.args.set.now.count (moved_by c.args.set.now.moves.now)) (sym rows) ((c.requires.starts e is.0 is.1 96).1 more))),
+            reported_same _ (Matches e) (whole.means e read) (left c.args.strips) _ of c.report.ensures.reported,
+          );
     }
