@@ -6,6 +6,8 @@ use anyhow::anyhow;
 use std::io::{BufRead, BufReader};
 
 mod beside;
+#[cfg(test)]
+mod building;
 mod spans;
 
 fn main(rt: HostRuntime) -> anyhow::Result<()> {
