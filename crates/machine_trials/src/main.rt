@@ -1,5 +1,5 @@
-// Runs the place machine and another matcher side by side: a line of input is a pattern, a tab and a
-// text, and each is answered with what both say, the machine for every way of cutting the text.
+// Runs the machines and another matcher side by side: a line of input is a pattern, a tab and a text,
+// and each is answered with what all say, the machines for every way of cutting the text.
 #![tactic(auto)]
 
 use anyhow::anyhow;
@@ -8,6 +8,8 @@ use std::io::{BufRead, BufReader};
 mod beside;
 #[cfg(test)]
 mod building;
+#[cfg(test)]
+mod legs;
 mod spans;
 
 fn main(rt: HostRuntime) -> anyhow::Result<()> {
