@@ -1,5 +1,6 @@
 // Legs of texts that are longer than the other matcher takes: by the set machine's `extend`, which
-// takes many bytes at once, beside steps byte by byte, and joined; and what the two machines answer.
+// takes many bytes at once, beside steps byte by byte, and joined; and what the two machines say of them.
+use crate::standing;
 use fault::Fault;
 use folding::fold::{Folding, Judging};
 use machines::set::build::{MOVES, SETS, build_sets};
@@ -57,7 +58,9 @@ fn agree(pattern: &str, text: &[u8; 300]) -> Result<bool, Fault> {
             }
         }
         let other = by_steps(&place, text);
-        if set.accepts(&leg) != place.accepts(&other) || set.lost(&leg) != place.lost(&other) {
+        let verdicts = set.accepts(&leg) == place.accepts(&other);
+        let losses = set.lost(&leg) == place.lost(&other);
+        if !verdicts || !losses || !standing::alike(&sets, &leg, &other) {
             return Ok(false);
         }
     }

@@ -11,6 +11,8 @@ mod building;
 #[cfg(test)]
 mod legs;
 mod spans;
+#[cfg(test)]
+mod standing;
 
 fn main(rt: HostRuntime) -> anyhow::Result<()> {
     for line in BufReader::new(rt.alloc(), rt.stdin())?.lines(rt.alloc()) {
