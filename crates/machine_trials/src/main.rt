@@ -13,6 +13,8 @@ mod legs;
 mod spans;
 #[cfg(test)]
 mod standing;
+#[cfg(test)]
+mod tables;
 
 fn main(rt: HostRuntime) -> anyhow::Result<()> {
     for line in BufReader::new(rt.alloc(), rt.stdin())?.lines(rt.alloc()) {
