@@ -1,17 +1,18 @@
-// One pattern and one text: the machine's verdict over strips that are cut in every way, filed out of
-// order, beside the other matcher's.
+// One pattern and one text: the verdicts of the machines over strips that are cut in every way, filed
+// out of order, beside the other matcher's.
 use crate::spans;
 use fault::Fault;
-use folding::fold::Folding;
+use folding::fold::{Folding, Judging};
 use folding::tally::Tallying;
-use machines::{PlaceMachine, build};
+use machines::set::build::{MOVES, SETS, build_sets};
+use machines::{SetMachine, build};
 use pattern::Pattern;
 use roll::feeding::strip_of;
 use roll::{LentMut, Roll};
 use std::fmt;
 
-// What the two say of a text: that it follows the pattern, that it doesn't, or not the same; or that
-// a call was refused, which is a line to print as the others are.
+// What all say of a text: that it follows the pattern, that it doesn't, or not the same; or that a
+// call was refused, which is a line to print as the others are.
 #[derive(Clone, Copy)]
 pub(crate) enum Comparison {
     Yes,
@@ -31,14 +32,22 @@ impl fmt::Display for Comparison {
     }
 }
 
-// The verdict over four strips, the cuts at i, j and k.
-fn cut(machine: &PlaceMachine, text: &[u8], i: usize, j: usize, k: usize) -> Result<bool, Fault> {
+// The verdict over four strips, the cuts at i, j and k. The legs are lent, eight of them: how large an
+// array of them would be is known only where the machine is.
+fn cut<M: Judging>(
+    machine: &M,
+    legs: &mut [M::Leg],
+    text: &[u8],
+    i: usize,
+    j: usize,
+    k: usize,
+) -> Result<bool, Fault> {
     let mut lent = LentMut {
         machine,
-        legs: &mut [machine.empty(); 8],
+        legs,
         tallies: &mut [Tallying.empty(); 8],
     };
-    let mut roll = Roll::new::<PlaceMachine, PlaceMachine>();
+    let mut roll = Roll::new::<M, M>();
     roll.open(&mut lent, 4)?;
     let (front, back) = text.split_at(j.min(text.len()));
     let (first, second) = front.split_at(i.min(front.len()));
@@ -50,12 +59,17 @@ fn cut(machine: &PlaceMachine, text: &[u8], i: usize, j: usize, k: usize) -> Res
 }
 
 // Whether every way of cutting the text gives this verdict: i, j and k are the cuts.
-fn every_cut(machine: &PlaceMachine, text: &[u8], verdict: bool) -> Result<bool, Fault> {
+fn every_cut<M: Judging>(
+    machine: &M,
+    legs: &mut [M::Leg],
+    text: &[u8],
+    verdict: bool,
+) -> Result<bool, Fault> {
     let n = text.len().min(64);
     for j in 0..=n {
         for i in 0..=j {
             for k in 0..=n {
-                if cut(machine, text, i, j, k)? != verdict {
+                if cut(machine, legs, text, i, j, k)? != verdict {
                     return Ok(false);
                 }
             }
@@ -67,9 +81,15 @@ fn every_cut(machine: &PlaceMachine, text: &[u8], verdict: bool) -> Result<bool,
 fn run(bytes: &[u8], text: &[u8]) -> Result<Comparison, Fault> {
     let mut pattern = Pattern::new();
     pattern.read(bytes)?;
-    let machine = build(&pattern);
+    let place = build(&pattern);
+    let mut sets = [0; SETS];
+    let mut moves = [0; MOVES];
+    let count = build_sets(&place, &mut sets, &mut moves)?;
+    let set = SetMachine::new(place, count, &sets, &moves);
     let verdict = spans::matches(bytes, text);
-    Ok(match (every_cut(&machine, text, verdict)?, verdict) {
+    let alike = every_cut(&place, &mut [place.empty(); 8], text, verdict)?
+        && every_cut(&set, &mut [set.empty(); 8], text, verdict)?;
+    Ok(match (alike, verdict) {
         (false, _) => Comparison::Differ,
         (true, true) => Comparison::Yes,
         (true, false) => Comparison::No,

@@ -1,12 +1,20 @@
-// Runs the place machine and another matcher side by side: a line of input is a pattern, a tab and a
-// text, and each is answered with what both say, the machine for every way of cutting the text.
+// Runs the machines and another matcher side by side: a line of input is a pattern, a tab and a text,
+// and each is answered with what all say, the machines for every way of cutting the text.
 #![tactic(auto)]
 
 use anyhow::anyhow;
 use std::io::{BufRead, BufReader};
 
 mod beside;
+#[cfg(test)]
+mod building;
+#[cfg(test)]
+mod legs;
 mod spans;
+#[cfg(test)]
+mod standing;
+#[cfg(test)]
+mod tables;
 
 fn main(rt: HostRuntime) -> anyhow::Result<()> {
     for line in BufReader::new(rt.alloc(), rt.stdin())?.lines(rt.alloc()) {
