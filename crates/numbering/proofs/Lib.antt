@@ -1,4 +1,5 @@
 mod Agreeing
+pub mod Blanking
 pub mod Counting
 mod Fitting
 mod Liking

@@ -1,9 +1,10 @@
 -- The search over blank tables leaves the tables of the starts. Assumes nothing.
 use Rattle.std.proofs.Common.{◌≡◌, ℕ, ◌+◌, ◌-◌, ◌*◌, ◌/◌, ◌%◌, ◌<◌, ◌≤◌, List, length, map, take, drop, replicate, get_or, sym, ap, ◌∙◌, subst, arith}
-use Rattle.std.proofs.lemmas.List.{drop-replicate, length-take, length-drop, length-replicate, map-id, same_lists, get_or-drop}
+use Rattle.std.proofs.lemmas.List.{length-take, length-drop, length-replicate, map-id, same_lists, get_or-drop}
 use Rattle.std.proofs.lemmas.List.Edits.{get_or-between}
 use Rattle.std.proofs.lemmas.Option.{get_or_from_slice_get}
-use Rattle.numbering.specs.Filling.{Fills, Moves, Blank}
+use Rattle.numbering.proofs.Blanking.{blank_after}
+use Rattle.numbering.specs.Filling.{Fills, Moves}
 use Rattle.numbering.specs.Laws.{NumberingLaws}
 use Rattle.starts.specs.Building.{StartsGranted}
 use Rattle.starts.specs.Maps.{identity, moved_by, rows}
@@ -37,9 +38,6 @@ unchanged n height were are long_were long_are rest =
         ∙ get_or-drop n (rows were) (r - n) d
         ∙ ap (λ k. get_or (rows were) k d) on
         ∙ get_or_from_slice_get (rows were) r (row were r) d (row_at were r (omega arith)))
-
-blank_after : (n room : ℕ) (were are : List ℕ) → were ≡ replicate room 0 → length are ≡ room → drop n are ≡ drop n were → Blank n are
-blank_after n room were are blank long rest = rest ∙ ap (drop n) blank ∙ drop-replicate n room 0 ∙ ap (λ k. replicate (k - n) 0) (sym long)
 
 pub granted : (k : ℕ) (moved : ℕ → ℕ → ℕ) (n height : ℕ) (were are before after : List ℕ) → height ≤ 512 → were ≡ replicate (64 * height) 0 → before ≡ replicate (256 * height) 0 → length are ≡ 64 * height → length after ≡ 256 * height → NumberingLaws (identity k) (moved_by k moved) → Fills (identity k) (moved_by k moved) n (rows were) (rows are) (map (λ i. i) before) (map (λ i. i) after) → StartsGranted k moved n are after
 granted k moved n height were are before after most no_maps no_moves long rows_long laws fills =

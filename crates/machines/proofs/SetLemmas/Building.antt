@@ -1,15 +1,13 @@
 -- The search over blank tables leaves the tables of the sets. Assumes nothing.
-use Rattle.std.proofs.Common.{◌≡◌, ℕ, ◌*◌, ◌-◌, ◌≤◌, List, length, map, take, drop, replicate, sym, ap, ◌∙◌, subst, arith}
-use Rattle.std.proofs.lemmas.List.{drop-replicate, length-take, map-id}
-use Rattle.numbering.specs.Filling.{Fills, Moves, Blank}
+use Rattle.std.proofs.Common.{◌≡◌, ℕ, ◌*◌, ◌≤◌, List, length, map, take, drop, replicate, sym, ap, ◌∙◌, subst, arith}
+use Rattle.std.proofs.lemmas.List.{length-take, map-id}
+use Rattle.numbering.proofs.Blanking.{blank_after}
+use Rattle.numbering.specs.Filling.{Fills, Moves}
 use Rattle.numbering.specs.Laws.{NumberingLaws}
 use Rattle.machines.specs.declared.place.tables.Tables.{Tables}
 use Rattle.machines.specs.Place.Runs.{stepped}
 use Rattle.machines.specs.Set.Building.{SetsGranted}
 use Rattle.machines.specs.Set.Tables.{start}
-
-blank_after : (n room : ℕ) (were are : List ℕ) → were ≡ replicate room 0 → length are ≡ room → drop n are ≡ drop n were → Blank n are
-blank_after n room were are blank long rest = rest ∙ ap (drop n) blank ∙ drop-replicate n room 0 ∙ ap (λ k. replicate (k - n) 0) (sym long)
 
 pub granted : (t : Tables) (n : ℕ) (were are before after : List ℕ) → were ≡ replicate 64 0 → before ≡ replicate 16384 0 → length are ≡ 64 → length after ≡ 16384 → NumberingLaws start (stepped t) → Fills start (stepped t) n were are (map (λ k. k) before) (map (λ k. k) after) → SetsGranted t n are after
 granted t n were are before after no_sets no_moves long rows laws fills =

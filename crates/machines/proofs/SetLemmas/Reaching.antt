@@ -1,6 +1,6 @@
 -- Two texts lead to one mask exactly if they lead to the same states. Assumes nothing.
 use Rattle.std.specs.Prelude.{◌↔◌}
-use Rattle.std.proofs.Common.{◌≡◌, ℕ, List, [], ◌∷◌, refl, sym, ap, subst, ◌∙◌, arith}
+use Rattle.std.proofs.Common.{◌≡◌, ℕ, List, [], ◌∷◌, refl, sym, subst, ◌∙◌, arith}
 use Rattle.folding.specs.Texts.{Bytes}
 use Rattle.notation.specs.Expressions.{Regex}
 use Rattle.numbering.proofs.Counting.{unlike_by}

@@ -1,7 +1,6 @@
 -- Two texts make one map of sets exactly if they lead on to the same states, whatever text went before. Assumes nothing.
-use Rattle.std.specs.Prelude.{◌↔◌}
 use Rattle.std.specs.List.{slice_get}
-use Rattle.std.proofs.Common.{◌≡◌, ℕ, ◌<◌, ◌≤◌, List, [], ◌∷◌, ◌++◌, length, take, get_or, refl, sym, ap, subst, ◌∙◌, append_assoc, arith, Some}
+use Rattle.std.proofs.Common.{◌≡◌, ℕ, ◌<◌, ◌≤◌, List, [], ◌∷◌, ◌++◌, length, take, get_or, sym, ap, subst, ◌∙◌, append_assoc, arith, Some}
 use Rattle.std.proofs.lemmas.List.{length-take-le, get_or-take, append-nil}
 use Rattle.std.proofs.lemmas.Option.{slice_get-get_or}
 use Rattle.folding.specs.Texts.{Bytes}
@@ -18,8 +17,8 @@ use Rattle.starts.specs.Maps.{identity, made, to, moved_by as moved_map}
 use Rattle.machines.specs.declared.place.tables.Tables.{Tables}
 use Rattle.machines.specs.Place.Runs.{stepped, run}
 use Rattle.machines.specs.Place.Tables.{TablesOf}
-use Rattle.machines.specs.Reached.{SameSet, SameStart, MoreStarts}
-use Rattle.machines.specs.Set.Runs.{led, moved_by}
+use Rattle.machines.specs.Reached.{SameStart}
+use Rattle.machines.specs.Set.Runs.{moved_by}
 use Rattle.machines.specs.Set.Shown.{moved_within}
 use Rattle.machines.specs.Set.Starting.{StartsReached}
 use Rattle.machines.specs.Set.Tables.{start, SetTables, Simulates}

@@ -1,5 +1,5 @@
 -- The moves of a set machine stay among its sets. It stands here since the proof of a trait's law may cite specs/ alone. Assumes nothing.
-use Rattle.std.specs.Prelude.{◌≡◌, ℕ, ◌+◌, ◌*◌, ◌%◌, ◌<◌, List, slice_index}
+use Rattle.std.specs.Prelude.{◌≡◌, ℕ, ◌+◌, ◌*◌, ◌<◌, List, slice_index}
 use Rattle.std.proofs.Common.{subst, sym, arith}
 use Rattle.machines.specs.declared.place.tables.Tables.{Tables}
 use Rattle.machines.specs.Set.Runs.{moved_by}

@@ -1,4 +1,4 @@
-use Rattle.std.proofs.Common.{◌≡◌, ℕ, ◌+◌, ◌*◌, ◌%◌, get_or, ap, ap₂, ◌∙◌}
+use Rattle.std.proofs.Common.{ℕ, ◌+◌, ◌*◌, ◌%◌, get_or, ap, ap₂, ◌∙◌}
 use Rattle.machines.specs.Set.Shown.{moved_entry}
 use Rattle.machines.proofs.set.SetMachine.next.Goals as goal
 
