@@ -4,7 +4,6 @@ ghost use Rattle.starts.specs.Maps.{composed, identity as identity_map, moved_by
 
 use crate::automaton::Automaton;
 use numbering::space::Point;
-use std::array;
 
 // Entry s is the number of the state that s is sent to: a row of the table of maps. An entry of a state
 // that there is not is 0.
@@ -18,9 +17,11 @@ impl StateMap {
     pub fn identity(states: usize) -> StateMap
         ensures value { result ≡ identity_map states }
     {
-        StateMap {
-            to: array::from_fn(|s| if s < states { s as u8 } else { 0 }),
+        let mut to = [0; 64];
+        for s in 0..states.min(64) {
+            to[s] = s as u8;
         }
+        StateMap { to }
     }
 
     // Where state s is sent.
@@ -34,27 +35,22 @@ impl StateMap {
     pub fn step<A: Automaton>(&self, automaton: &A, c: u8) -> StateMap
         ensures value { result ≡ moved_by (A.count automaton.now) (A.moved automaton.now) self.now c }
     {
-        let states = automaton.states();
-        StateMap {
-            to: array::from_fn(|s| if s < states {
-                A::index(automaton.next(A::state(self.to(s)), c)) as u8
-            } else {
-                0
-            }),
+        let mut to = [0; 64];
+        for s in 0..automaton.states() {
+            to[s] = A::index(automaton.next(A::state(self.to(s)), c)) as u8;
         }
+        StateMap { to }
     }
 
     // First this one, and then `second`.
     pub fn then(&self, second: &StateMap, states: usize) -> StateMap
         ensures value { result ≡ composed states self.now second.now }
     {
-        StateMap {
-            to: array::from_fn(|s| if s < states {
-                second.to(self.to(s)) as u8
-            } else {
-                0
-            }),
+        let mut to = [0; 64];
+        for s in 0..states.min(64) {
+            to[s] = second.to(self.to(s)) as u8;
         }
+        StateMap { to }
     }
 }
 
@@ -66,7 +62,8 @@ impl Point for StateMap {
 
     fn get(cells: &[u8], number: usize) -> Option<StateMap> {
         let (rows, _) = cells.as_chunks::<64>();
-        rows.get(number).map(|row| StateMap { to: *row })
+        let row = rows.get(number)?;
+        Some(StateMap { to: *row })
     }
 
     fn find(&self, cells: &[u8], count: usize) -> Option<usize> {
