@@ -1,14 +1,14 @@
 -- What texts do over tables that lead from map to map as the bytes do. Assumes nothing.
-use Rattle.std.proofs.Common.{◌≡◌, ℕ, ◌%◌, ◌<◌, ◌≤◌, List, [], ◌∷◌, ◌++◌, refl, sym, ap, ap₂, subst, ◌∙◌, append_assoc, arith}
+use Rattle.std.proofs.Common.{◌≡◌, ℕ, ◌%◌, ◌<◌, ◌≤◌, List, [], ◌∷◌, ◌++◌, sym, ap, ap₂, subst, ◌∙◌, append_assoc, arith}
 use Rattle.std.proofs.lemmas.List.{append-nil}
 use Rattle.folding.specs.Texts.{Bytes}
 use Rattle.folding.proofs.Texts.{bytes_append}
 use Rattle.starts.specs.Automata.{led}
-use Rattle.starts.specs.Maps.{to, identity, composed, moved_by, made}
+use Rattle.starts.specs.Maps.{to, composed, moved_by, made}
 use Rattle.starts.specs.Runs.{move_of, leg, StartBuilt}
 use Rattle.starts.specs.Starts.{row, Follows}
 use Rattle.starts.specs.declared.statemap.StateMap.{StateMap}
-use Rattle.starts.proofs.Leading.{led_none, led_append, led_below}
+use Rattle.starts.proofs.Leading.{led_below}
 use Rattle.starts.proofs.Sending.{made_none, made_push, made_joined, made_at}
 
 -- the leg of a text is a start of the table

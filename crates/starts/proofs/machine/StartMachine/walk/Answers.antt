@@ -1,21 +1,19 @@
-use Rattle.std.proofs.Common.{rules, ◌≡◌, ℕ, ◌*◌, ◌<◌, ◌≤◌, List, length, map, slice_index, ◌+◌, ◌-◌, ◌/◌, ◌%◌, Bool, true, false, nat_eq, nat_lt, [], ◌∷◌, ◌++◌, slice_index_or, slice_set, bit_and, bit_or, Fits, w8, w32, w64, Bor, MutBor}
-use Rattle.folding.specs.Texts.{Bytes, AllBytes, together}
-use Rattle.starts.specs.Automata.{led}
-use Rattle.starts.specs.Runs.{leg as leg_of}
-use Rattle.starts.specs.Runs.{move_of, StartBuilt}
-use Rattle.starts.specs.Parts.{Lanes}
-use Rattle.starts.specs.Starts.{row as row_of}
-use Rattle.starts.specs.Starts.{StartTables, Follows}
+use Rattle.std.proofs.Common.{◌<◌, get_or, sym, subst, ◌∙◌}
+use Rattle.starts.specs.Runs.{move_of}
+use Rattle.starts.proofs.Leading.{led_more, led_all}
 use Rattle.starts.proofs.machine.StartMachine.walk.Goals as goal
 
--- src/machine.rt:74:9
-pub loop-c-init : goal.loop-c-init
-loop-c-init g c = ?
-
--- src/machine.rt:74:9
 pub loop-c-preserved : goal.loop-c-preserved
-loop-c-preserved g c = ?
+loop-c-preserved g c h =
+    let m = c.args.self.now in
+    let i = c.loop-c.c-index in
+    let so_far = c.loop-c.invariant h in
+    let next = c.next-at.ensures.value so_far.0 in (
+      subst (λ r. r < m.count) (sym next) (m.follows.5 c.loop-c.at (get_or c.args.text.now i 0) so_far.0 (c.type_inv.text i).fits).0,
+      led_more (move_of m.moves.now) c.args.text.now i c.loop-c.at c.next-at.result c.loop-c-test.true next ∙ so_far.1,
+    )
 
--- src/machine.rt:70:5
 pub returns : goal.returns
-returns g c = ?
+returns g c = record {
+  value = λ h. led_all (move_of c.args.self.now.moves.now) c.args.text.now c.loop-c.c-index c.loop-c.at c.loop-c-test.false ∙ (c.loop-c.invariant h).1;
+}

@@ -1,12 +1,8 @@
-use Rattle.std.proofs.Common.{◌≡◌, ℕ, ◌*◌, ◌<◌, ◌≤◌, List, length, map, slice_index, ◌+◌, ◌-◌}
-use Rattle.folding.specs.Texts.{Bytes, AllBytes, together}
+use Rattle.std.proofs.Common.{◌≡◌, ◌<◌, drop}
 use Rattle.starts.specs.Automata.{led}
-use Rattle.starts.specs.Runs.{leg as leg_of}
-use Rattle.starts.specs.Runs.{move_of, StartBuilt}
-use Rattle.starts.specs.Parts.{Lanes}
-use Rattle.starts.specs.Starts.{row as row_of}
-use Rattle.starts.specs.Starts.{StartTables, Follows}
+use Rattle.starts.specs.Runs.{move_of}
 use Rattle.starts.proofs.machine.StartMachine.walk.Given as goal
 
+-- what is left leads on from here to where the whole text leads
 abbrev pub invariant-loop-c : goal.invariant-loop-c
-invariant-loop-c g l = ?
+invariant-loop-c g l = l.fn.from < l.self.count → (l.at < l.self.count) × (led (move_of l.self.moves.now) (drop l.c-index l.text) l.at ≡ led (move_of l.self.moves.now) l.text l.fn.from)

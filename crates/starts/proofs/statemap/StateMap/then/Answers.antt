@@ -1,4 +1,4 @@
-use Rattle.std.proofs.Common.{◌≡◌, ℕ, ◌∙◌, ap, arith}
+use Rattle.std.proofs.Common.{◌∙◌, ap, arith}
 use Rattle.starts.specs.Maps.{to}
 use Rattle.starts.proofs.Filling.{filled_none, filled_more, filled_all}
 use Rattle.starts.proofs.statemap.StateMap.then.Goals as goal
