@@ -1,5 +1,6 @@
 -- Where texts lead by single moves. Assumes nothing.
-use Rattle.std.proofs.Common.{◌≡◌, ℕ, ◌<◌, List, [], ◌∷◌, ◌++◌, refl}
+use Rattle.std.proofs.Common.{◌≡◌, ℕ, suc, ◌+◌, ◌<◌, ◌≤◌, List, [], ◌∷◌, ◌++◌, length, drop, drop-cons, get_or, refl, sym, ap, ap₂, ◌∙◌, arith}
+use Rattle.std.proofs.Math.ListN.{drop_of_length-le}
 use Rattle.folding.specs.Texts.{Bytes}
 use Rattle.starts.specs.Automata.{led}
 
@@ -22,3 +23,13 @@ pub led_below : (moved : ℕ → ℕ → ℕ) (k : ℕ) → ((s c : ℕ) → s <
 unfolding led
 led_below moved k closed [] s bytes low = low
 led_below moved k closed (c ∷ w) s bytes low = led_below moved k closed w (moved s c) bytes.1 (closed s c low bytes.0)
+
+-- what is left of a text leads on from where its first byte leads
+pub led_more : (moved : ℕ → ℕ → ℕ) (text : List ℕ) (i at next : ℕ) → i < length text → next ≡ moved at (get_or text i 0) → led moved (drop (i + 1) text) next ≡ led moved (drop i text) at
+unfolding led
+led_more moved text i at next lt is =
+    ap₂ (led moved) (ap (λ j. drop j text) (let one : i + 1 ≡ suc i = omega arith in one)) is ∙ ap (λ w. led moved w at) (sym (drop-cons text i 0 lt))
+
+pub led_all : (moved : ℕ → ℕ → ℕ) (text : List ℕ) (i at : ℕ) → length text ≤ i → at ≡ led moved (drop i text) at
+unfolding led
+led_all moved text i at le = ap (λ w. led moved w at) (sym (drop_of_length-le text le))

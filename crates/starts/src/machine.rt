@@ -1,9 +1,10 @@
 // The start machine (the automaton of the transformations that texts make): a judging machine whose leg
 // of a text is one number, and whose step is one look-up.
-ghost use Rattle.std.specs.Prelude.{◌≡◌, ◌<◌, ◌≤◌, slice_index, List, ℕ};
-ghost use Rattle.folding.specs.Texts.{Bytes};
+ghost use Rattle.std.specs.Prelude.{◌≡◌, ℕ, ◌*◌, ◌<◌, ◌≤◌, List, length, map, slice_index};
+ghost use Rattle.folding.specs.Texts.{Bytes, AllBytes, together};
 ghost use Rattle.starts.specs.Automata.{led};
 ghost use Rattle.starts.specs.Runs.{leg as leg_of, move_of, StartBuilt};
+ghost use Rattle.starts.specs.Parts.{Lanes};
 ghost use Rattle.starts.specs.Starts.{row as row_of, StartTables, Follows};
 
 use crate::automaton::Automaton;
@@ -11,6 +12,9 @@ use crate::startno::StartNo;
 use crate::statemap::StateMap;
 use folding::fold::{Folding, Judging};
 use numbering::space::Point;
+
+// The shortest text that is worth cutting: eight maps have to be composed, and their start to be found.
+const LONG: usize = 512;
 
 // Over the tables that a granted build left, and the automaton that they were built of.
 #[derive(Drop)]
@@ -62,6 +66,46 @@ impl<'a, A: Automaton> StartMachine<'a, A> {
         StartNo::nth(map.find(self.maps, self.count).unwrap_or(0))
     }
 
+    // Where the text leads from a start, byte by byte.
+    fn walk(&self, from: StartNo, text: &[u8]) -> StartNo
+        ensures value { from < self.now.count → result ≡ led (move_of self.now.moves.now) text.now from }
+    {
+        let mut at = from;
+        for c in text {
+            at = self.next(at, *c);
+        }
+        at
+    }
+
+    // Where each of the first eight parts of the text, of `part` bytes, leads from its lane's start.
+    // The lanes are stepped side by side, so that no look-up waits for another's.
+    fn walk_parts(&self, from: [usize; 8], text: &[u8], part: usize) -> [usize; 8]
+        requires starts { (j : ℕ) → slice_index from j < self.now.count }
+        requires parts { 8 * part ≤ length text.now }
+        ensures lanes { Lanes (move_of self.now.moves.now) self.now.count text.now part from part result }
+    {
+        let moves = self.moves;
+        let mut lanes = from;
+        for i in 0..part {
+            for j in 0..8 {
+                lanes[j] = usize::from(moves[256 * lanes[j] + usize::from(text[part * j + i])]);
+            }
+        }
+        lanes
+    }
+
+    // The start of the maps of these starts, composed in order.
+    fn join_all(&self, starts: &[usize]) -> StartNo
+        ensures joins { (texts : List (List ℕ)) → AllBytes texts → starts.now ≡ map (leg_of self.now.moves.now) texts → result ≡ leg_of self.now.moves.now (together texts) }
+    {
+        let states = self.automaton.states();
+        let mut both = StateMap::identity(states);
+        for start in starts {
+            both = both.then(&self.map(StartNo::nth(*start)), states);
+        }
+        self.start_of(&both)
+    }
+
     // The number of the state that texts of this leg lead to.
     fn state(&self, at: StartNo) -> A::State
         ensures value { (w : List ℕ) → Bytes w → at ≡ leg_of self.now.moves.now w → A.number result ≡ led (A.moved self.now.automaton.now) w 0 }
@@ -88,6 +132,16 @@ impl<A: Automaton> Folding for StartMachine<'_, A> {
             .map(*first)
             .then(&self.map(*second), self.automaton.states());
         self.start_of(&both)
+    }
+
+    fn extend(&self, at: &StartNo, text: &[u8]) -> StartNo {
+        let from = usize::from(*at);
+        if text.len() < LONG || from >= self.count {
+            return self.walk(*at, text);
+        }
+        let part = text.len() / 8;
+        let lanes = self.walk_parts([from, 0, 0, 0, 0, 0, 0, 0], text, part);
+        self.walk(self.join_all(&lanes), &text[8 * part..])
     }
 }
 
