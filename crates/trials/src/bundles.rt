@@ -71,3 +71,15 @@ fn the_first_refusal_ends_it(rt: HostRuntime) -> Result<(), Fail> {
     let crowded = b"\x00\x00\x00\x0aa{32}a{32}";
     prints(&rt, crowded, "refused 3 layer pattern place 0")
 }
+
+// The counts are those of another program, which numbers the sets and the starts of a pattern by
+// their definition: 15 sets and 96 starts, 16 sets and 97 starts, and more than 64 sets.
+#[test]
+fn machines_without_room(rt: HostRuntime) -> Result<(), Fail> {
+    let full = b"\x00\x01\x00\x0d\x00\x00\x07a{6}(b{5}c)*daaaaaad";
+    prints(&rt, full, "verdict yes\nbytes 7\nlines 0\nlost at none")?;
+    let starts = b"\x00\x01\x00\x10\x80\x00\x01a{7}(b{4}c)*d{2}x";
+    prints(&rt, starts, "refused 6 layer build place 96")?;
+    let sets = b"\x00\x01\x00\x07\x80\x00\x01.*a.{5}x";
+    prints(&rt, sets, "refused 5 layer build place 0")
+}
