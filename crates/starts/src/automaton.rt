@@ -25,8 +25,7 @@ pub trait Automaton {
         ensures few { result < 64 };
 
     fn states(&self) -> usize
-        ensures value { result ≡ count self.now }
-        ensures few { (1 ≤ result) × (result ≤ 64) };
+        ensures value { result ≡ count self.now };
 
     fn next(&self, from: Self::State, c: u8) -> Self::State
         ensures value { number result ≡ moved self.now (number from) c };

@@ -136,6 +136,7 @@ impl<A: Automaton> Folding for StartMachine<'_, A> {
 
     fn extend(&self, at: &StartNo, text: &[u8]) -> StartNo {
         let from = usize::from(*at);
+        // A number that is no text's leg has no row.
         if text.len() < LONG || from >= self.count {
             return self.walk(*at, text);
         }

@@ -9,7 +9,7 @@ loop-s-init g c = filled_none (λ s. g.A.Automaton.moved c.args.automaton.now (t
 pub loop-s-preserved : goal.loop-s-preserved
 loop-s-preserved g c =
     let low = c.loop-s-test.true in
-    let few = c.states-s-end.ensures.few.1 in
+    let few = (g.met.A.Automaton.few c.args.automaton.now).1 in
     let from : c.to.result % 64 ≡ to c.args.self.now c.loop-s.s = omega (arith, c.to.ensures.value) in
     filled_more (λ s. g.A.Automaton.moved c.args.automaton.now (to c.args.self.now s) c.args.c) c.loop-s.s c.loop-s.to _ (omega arith) c.loop-s.invariant
     (rw (c.index.ensures.value, c.next.ensures.value, c.state.ensures.value, from))
@@ -17,7 +17,7 @@ loop-s-preserved g c =
 pub returns : goal.returns
 returns g c =
     let past = c.loop-s-test.false in
-    let few = c.states-s-end.ensures.few.1 in
+    let few = (g.met.A.Automaton.few c.args.automaton.now).1 in
     record {
       value =
           filled_all (λ s. g.A.Automaton.moved c.args.automaton.now (to c.args.self.now s) c.args.c) (g.A.Automaton.count c.args.automaton.now) c.loop-s.s c.loop-s.to c.loop-s.invariant
