@@ -1,2 +1,4 @@
+pub mod EmptyPattern
 pub mod PlaceLemmas
 pub mod SetLemmas
+pub mod Worked

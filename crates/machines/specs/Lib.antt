@@ -1,3 +1,4 @@
+pub mod Examples
 pub mod Place
 pub mod Reached
 pub mod Set

@@ -7,6 +7,9 @@ pub mod place;
 // The set machine: `set/build.rt` builds its tables.
 pub mod set;
 
+// What is claimed of patterns that were worked out by hand.
+pub mod examples;
+
 pub use crate::place::PlaceMachine;
 pub use crate::place::build::build;
 pub use crate::set::SetMachine;

@@ -1,4 +1,4 @@
--- The worked examples: the automaton is run on each pattern, and its set is looked into. Assumes nothing.
+-- Patterns worked out by hand: the automaton is run on each pattern, and its set is looked into. Assumes nothing.
 use Rattle.std.proofs.Common.{◌≡◌, ℕ, zero, suc, ◌-◌, ◌≤◌, Bool, true, ◌&&◌, ltb, List, [], ◌∷◌, ◌++◌, length, get_or, codes, refl, ap, ◌∙◌, subst, inl, inr, arith, length-append}
 use Rattle.std.specs.List.{flat_map, AllByRecursion}
 use Rattle.std.proofs.lemmas.Bool.{and_parts, ltb-true}
@@ -11,7 +11,6 @@ use Rattle.notation.specs.Meaning.{Lang, Empty, Union, Copies, Matches}
 use Rattle.notation.specs.Automaton.{good, bad, outcome_of, start}
 use Rattle.notation.specs.Refusals.{refused}
 use Rattle.notation.specs.Reading.{ReadAs, Refused}
-use Rattle.notation.specs.Examples.{Examples}
 use Rattle.notation.proofs.Sounds.{Bytes, sound}
 use Rattle.notation.proofs.Faults.{longest, not_written}
 
@@ -47,18 +46,21 @@ not_empty : (b : ℕ) (w : List ℕ) → b ∷ w ≡ [] → ⊥
 not_empty b w e = omega (arith, ap length e)
 
 -- the empty pattern
-none_written : ReadAs [] empty
+pub empty_read : ReadAs (codes "") empty
 unfolding outcome_of
-none_written = reads [] empty refl (omega arith) refl (omega arith)
+empty_read = reads (codes "") empty refl (omega arith) refl (omega arith)
+
+pub empty_omits : Matches empty (codes "a") → ⊥
+empty_omits = not_empty _ _
 
 -- (abc)*
 abbrev abc : Regex
 abc = seq (seq (seq empty (letter 97)) (letter 98)) (letter 99)
 
-abbrev stars : Regex
+abbrev pub stars : Regex
 stars = seq empty (star abc)
 
-stars_read : ReadAs (codes "(abc)*") stars
+pub stars_read : ReadAs (codes "(abc)*") stars
 unfolding outcome_of
 stars_read = reads (codes "(abc)*") stars refl (omega arith) refl (omega arith)
 
@@ -72,25 +74,31 @@ abc_is w (u, v, is, (u1, v1, is1, (u2, v2, is2, none, (a, va, ta)), (b, vb, tb))
     let third = vc ∙ ap (λ x. x ∷ []) (taken 99 c tc) in
     is ∙ (λ i. (is1 ∙ (λ j. (is2 ∙ (λ k. none k ++ first k)) j ++ second j)) i ++ third i)
 
+pub stars_none : Matches stars (codes "")
+stars_none = ([], [], refl, refl, ([], tt, refl))
+
+pub stars_twice : Matches stars (codes "abcabc")
+stars_twice = ([], codes "abcabc", refl, refl, (codes "abc" ∷ (codes "abc" ∷ []), (abc_in, (abc_in, tt)), refl))
+
 no_cab : (ws : List (List ℕ)) → AllByRecursion (Matches abc) ws → codes "cab" ≡ flat_map (λ u. u) ws → ⊥
 no_cab [] all is = not_empty _ _ is
 no_cab (x ∷ ws) all is = let z : ◌≡◌ {A = ℕ} 99 97 = ap (λ l. get_or l 0 0) (is ∙ ap (λ l. l ++ flat_map (λ u. u) ws) (abc_is x all.0)) in omega arith
 
-stars_omit : Matches stars (codes "cab") → ⊥
+pub stars_omit : Matches stars (codes "cab") → ⊥
 stars_omit (u, v, is, none, (ws, all, whole)) = no_cab ws all (is ∙ (λ i. none i ++ whole i))
 
 -- [A-B]+C
-abbrev plusses : Regex
+abbrev pub plusses : Regex
 plusses = seq (seq empty (plus (one ((65, 66) ∷ [])))) (letter 67)
 
-plusses_read : ReadAs (codes "[A-B]+C") plusses
+pub plusses_read : ReadAs (codes "[A-B]+C") plusses
 unfolding outcome_of
 plusses_read = reads (codes "[A-B]+C") plusses refl (omega arith) refl (omega arith)
 
-plusses_yield : Matches plusses (codes "ABC")
+pub plusses_yield : Matches plusses (codes "ABC")
 plusses_yield = (codes "AB", codes "C", refl, ([], codes "AB", refl, refl, (codes "A", codes "B", refl, (65, refl, inl (omega arith, omega arith)), (codes "B" ∷ [], ((66, refl, inl (omega arith, omega arith)), tt), refl))), (67, refl, takes 67))
 
-plusses_omit : Matches plusses (codes "C") → ⊥
+pub plusses_omit : Matches plusses (codes "C") → ⊥
 plusses_omit (u, v, is, (u1, v1, is1, none, (x, y, is2, (a, xa, _), more)), (c, vc, _)) =
     omega (arith, ap length is, length-append u v, ap length is1, length-append u1 v1, ap length is2, length-append x y, ap length xa, ap length vc)
 
@@ -98,14 +106,14 @@ plusses_omit (u, v, is, (u1, v1, is1, none, (x, y, is2, (a, xa, _), more)), (c, 
 abbrev either : Regex
 either = alt (seq empty (letter 97)) (seq empty (letter 98))
 
-abbrev counts : Regex
+abbrev pub counts : Regex
 counts = seq empty (counted 2 3 either)
 
-counts_read : ReadAs (codes "(a|b){2,3}") counts
+pub counts_read : ReadAs (codes "(a|b){2,3}") counts
 unfolding outcome_of
 counts_read = reads (codes "(a|b){2,3}") counts refl (omega arith) refl (omega arith)
 
-counts_yield : Matches counts (codes "ab")
+pub counts_yield : Matches counts (codes "ab")
 counts_yield = (
   [],
   codes "ab",
@@ -129,58 +137,53 @@ or_none_short : (w : List ℕ) → Union (Matches either) Empty w → length w �
 or_none_short w (inl h) = either_short w h
 or_none_short w (inr none) = omega (arith, ap length none)
 
-counts_omit : Matches counts (codes "abab") → ⊥
+pub counts_omit : Matches counts (codes "abab") → ⊥
 counts_omit (u, v, is, none, (x, y, is2, front, back)) =
     omega (arith, ap length is, length-append u v, ap length none, ap length is2, length-append x y, copies_short 2 (Matches either) either_short x front, copies_short 1 (Union (Matches either) Empty) or_none_short y back)
 
 -- a{0}
-abbrev none_of : Regex
+abbrev pub none_of : Regex
 none_of = seq empty (counted 0 0 (letter 97))
 
-none_read : ReadAs (codes "a{0}") none_of
+pub none_read : ReadAs (codes "a{0}") none_of
 unfolding outcome_of
 none_read = reads (codes "a{0}") none_of refl (omega arith) refl (omega arith)
 
-none_omits : Matches none_of (codes "a") → ⊥
+pub none_omits : Matches none_of (codes "a") → ⊥
 none_omits (u, v, is, none, (x, y, is2, front, back)) = omega (arith, ap length is, length-append u v, ap length none, ap length is2, length-append x y, ap length front, ap length back)
 
+-- a{32}a{31} and a{32}a{32}
 abbrev times : ℕ → Regex
 times n = counted n n (letter 97)
 
-crowded : Refused (codes "a{32}a{32}") (refused TooManyPlaces 0)
+abbrev pub full : Regex
+full = seq (seq empty (times 32)) (times 31)
+
+pub full_read : ReadAs (codes "a{32}a{31}") full
+unfolding outcome_of
+full_read = reads (codes "a{32}a{31}") full refl (omega arith) refl (omega arith)
+
+pub crowded : Refused (codes "a{32}a{32}") (refused TooManyPlaces 0)
 unfolding outcome_of
 crowded = inr (inr (omega arith, seq (seq empty (times 32)) (times 32), read_as (codes "a{32}a{32}") (seq (seq empty (times 32)) (times 32)) refl refl, omega arith, refl))
 
-infixr 10 ◌and◌
-abbrev ◌and◌ : {A B : Type 0} → A → B → A × B
-a and b = (a, b)
-
-abbrev full : Regex
-full = seq (seq empty (times 32)) (times 31)
-
-pub examples : Examples
+-- badly written
+pub most_below_least : Refused (codes "a{2,1}") (refused BadlyWritten 5)
 unfolding outcome_of
-examples =
-    (empty, none_written, refl)
-    and (empty, none_written, refl)
-    and (empty, none_written, not_empty _ _)
-    and (stars, stars_read, refl)
-    and (stars, stars_read, ([], [], refl, refl, ([], tt, refl)))
-    and (stars, stars_read, ([], codes "abcabc", refl, refl, (codes "abc" ∷ (codes "abc" ∷ []), (abc_in, (abc_in, tt)), refl)))
-    and (stars, stars_read, stars_omit)
-    and (plusses, plusses_read, refl)
-    and (plusses, plusses_read, plusses_yield)
-    and (plusses, plusses_read, plusses_omit)
-    and (counts, counts_read, refl)
-    and (counts, counts_read, counts_yield)
-    and (counts, counts_read, counts_omit)
-    and (none_of, none_read, refl)
-    and (none_of, none_read, none_omits)
-    and (full, reads (codes "a{32}a{31}") full refl (omega arith) refl (omega arith), refl)
-    and crowded
-    and refused_at (codes "a{2,1}") 1 5 refl (omega arith) refl refl
-    and refused_at (codes "[b-a]") 2 3 refl (omega arith) refl refl
-    and refused_at (codes "a{33}") 2 3 refl (omega arith) refl refl
-    and refused_at (codes "a**") 1 2 refl (omega arith) refl refl
-    and refused_at (codes "*a") 2 0 refl (omega arith) refl refl
-    and tt
+most_below_least = refused_at (codes "a{2,1}") 1 5 refl (omega arith) refl refl
+
+pub range_backwards : Refused (codes "[b-a]") (refused BadlyWritten 3)
+unfolding outcome_of
+range_backwards = refused_at (codes "[b-a]") 2 3 refl (omega arith) refl refl
+
+pub count_too_large : Refused (codes "a{33}") (refused BadlyWritten 3)
+unfolding outcome_of
+count_too_large = refused_at (codes "a{33}") 2 3 refl (omega arith) refl refl
+
+pub repeated_twice : Refused (codes "a**") (refused BadlyWritten 2)
+unfolding outcome_of
+repeated_twice = refused_at (codes "a**") 1 2 refl (omega arith) refl refl
+
+pub nothing_to_repeat : Refused (codes "*a") (refused BadlyWritten 0)
+unfolding outcome_of
+nothing_to_repeat = refused_at (codes "*a") 2 0 refl (omega arith) refl refl

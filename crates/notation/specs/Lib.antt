@@ -7,4 +7,3 @@ pub mod Beginnings
 pub mod Automaton
 pub mod Refusals
 pub mod Reading
-pub mod Examples

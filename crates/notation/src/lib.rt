@@ -1,4 +1,2 @@
 // The notation of patterns: how they are written, what they mean, and how they are refused.
 #![tactic(auto)]
-
-pub mod examples;

@@ -1,9 +1,9 @@
--- Patterns worked out by hand, with what they mean and how they are refused. Assumes nothing.
+-- Patterns worked out by hand, with what they mean, how many sets and starts their texts come to, and how they are refused. Assumes nothing.
 --
---   Claim     what is said of one pattern, in the four forms below
---   Holds     what each form says
+--   Claim     what is said of one pattern, in the six forms below
+--   Holds     what each form says: `has_sets n` that exactly n sets are reached, more than n - 1 and no more than n, and `has_starts n` so of starts
 --   Examples  each of the claims holds
-use Rattle.std.specs.Prelude.{ℕ, List, [], ◌∷◌, codes}
+use Rattle.std.specs.Prelude.{ℕ, ◌-◌, List, [], ◌∷◌, codes}
 use Rattle.std.specs.List.{AllByRecursion}
 use Rattle.fault.specs.declared.Fault.{Fault}
 use Rattle.fault.specs.declared.Refusal.TheVariants.{BadlyWritten, TooManyPlaces}
@@ -11,17 +11,20 @@ use Rattle.notation.specs.Expressions.{Regex}
 use Rattle.notation.specs.Meaning.{Matches}
 use Rattle.notation.specs.Reading.{ReadAs, Granted, Refused}
 use Rattle.notation.specs.Refusals.{refused}
+use Rattle.machines.specs.Reached.{MoreSets, MoreStarts}
 
-infix 70 ◌yields◌ ◌omits◌ ◌has_places◌ ◌answers◌
+infix 70 ◌yields◌ ◌omits◌ ◌has_places◌ ◌has_sets◌ ◌has_starts◌ ◌answers◌
 pub data Claim : Type 0 where
   ◌yields◌ ◌omits◌ : List ℕ → List ℕ → Claim
-  ◌has_places◌ : List ℕ → ℕ → Claim
+  ◌has_places◌ ◌has_sets◌ ◌has_starts◌ : List ℕ → ℕ → Claim
   ◌answers◌ : List ℕ → Fault → Claim
 
 abbrev pub Holds : Claim → Type 0
 Holds (p yields w) = (e : Regex) × ReadAs p e × Matches e w
 Holds (p omits w) = (e : Regex) × ReadAs p e × (Matches e w → ⊥)
 Holds (p has_places n) = Granted p n
+Holds (p has_sets n) = (e : Regex) × ReadAs p e × MoreSets (n - 1) e × (MoreSets n e → ⊥)
+Holds (p has_starts n) = (e : Regex) × ReadAs p e × MoreStarts (n - 1) e × (MoreStarts n e → ⊥)
 Holds (p answers f) = Refused p f
 
 abbrev pub claims : List Claim
@@ -29,6 +32,8 @@ claims =
     codes "" has_places 0
     ∷ codes "" yields codes ""
     ∷ codes "" omits codes "a"
+    ∷ codes "" has_sets 2
+    ∷ codes "" has_starts 2
     ∷ codes "(abc)*" has_places 3
     ∷ codes "(abc)*" yields codes ""
     ∷ codes "(abc)*" yields codes "abcabc"
