@@ -2,6 +2,7 @@
 use Rattle.std.proofs.Common.{◌≡◌, ℕ, ◌%◌, ◌<◌, ◌≤◌, List, [], ◌∷◌, ◌++◌, sym, ap, ap₂, subst, ◌∙◌, append_assoc, arith}
 use Rattle.std.proofs.lemmas.List.{append-nil}
 use Rattle.folding.specs.Texts.{Bytes}
+use Rattle.folding.proofs.Gathering.{associative}
 use Rattle.folding.proofs.Texts.{bytes_append}
 use Rattle.starts.specs.Automata.{led}
 use Rattle.starts.specs.Maps.{to, composed, moved_by, made}
@@ -63,5 +64,6 @@ module _ (k : ℕ) (moved : ℕ → ℕ → ℕ) (n : ℕ) (maps moves : List �
     makes = λ w bytes. (leg_makes w bytes).1;
     means = λ w bytes. (λ m. m, λ m. m);
     joins = leg_joined;
+    associative = associative (leg moves);
     one = leg_one;
   }

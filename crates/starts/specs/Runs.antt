@@ -5,8 +5,10 @@
 --     makes    the map of the start that the text w leads to is the map that w makes of the automaton's states
 --     means    M holds of exactly the texts that the automaton means
 --     joins    the map of the leg of two texts joined is the maps of their legs composed, the first one first
+--     associative   joining the legs of texts in either grouping gives one leg
 --     one      texts that make one map have one leg
 use Rattle.std.specs.Prelude.{◌≡◌, ℕ, ◌+◌, ◌*◌, ◌<◌, ◌↔◌, List, ◌++◌, slice_index}
+use Rattle.folding.specs.Legs.{Associative}
 use Rattle.folding.specs.Texts.{Bytes}
 use Rattle.starts.specs.Automata.{led}
 use Rattle.starts.specs.Maps.{composed, made}
@@ -23,4 +25,5 @@ pub record StartBuilt (k : ℕ) (moved : ℕ → ℕ → ℕ) (n : ℕ) (maps : 
   pub makes : (w : List ℕ) → Bytes w → row maps (leg w) ≡ made k moved w
   pub means : (w : List ℕ) → Bytes w → M w ↔ N w
   pub joins : (v w : List ℕ) → Bytes v → Bytes w → row maps (leg (v ++ w)) ≡ composed k (row maps (leg v)) (row maps (leg w))
+  pub associative : Associative leg
   pub one : (v w : List ℕ) → Bytes v → Bytes w → made k moved v ≡ made k moved w → leg v ≡ leg w

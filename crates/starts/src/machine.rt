@@ -1,8 +1,10 @@
 // The start machine (the automaton of the transformations that texts make): a judging machine whose leg
 // of a text is one number, and whose step is one look-up.
-ghost use Rattle.std.specs.Prelude.{◌≡◌, ℕ, ◌*◌, ◌<◌, ◌≤◌, List, length, map, slice_index};
+ghost use Rattle.std.specs.Prelude.{◌≡◌, ℕ, ◌*◌, ◌%◌, ◌<◌, ◌≤◌, List, length, map, slice_index, unwrap_or};
 ghost use Rattle.folding.specs.Texts.{Bytes, AllBytes, together};
+ghost use Rattle.std.specs.List.{slice_get};
 ghost use Rattle.starts.specs.Automata.{led};
+ghost use Rattle.starts.specs.Maps.{identity, rows};
 ghost use Rattle.starts.specs.Runs.{leg as leg_of, move_of, StartBuilt};
 ghost use Rattle.starts.specs.Parts.{Lanes};
 ghost use Rattle.starts.specs.Starts.{row as row_of, StartTables, Follows};
@@ -44,19 +46,21 @@ impl<'a, A: Automaton> StartMachine<'a, A> {
         }
     }
 
-    // Where the byte leads from a start.
+    // Where the byte leads from a start; a number that no start has is looked up all the same.
     pub fn next(&self, from: StartNo, c: u8) -> StartNo
+        ensures entry { result ≡ move_of self.now.moves.now from c % 512 }
         ensures value { from < self.now.count → result ≡ move_of self.now.moves.now from c }
     {
         let at = 256 * usize::from(from) + usize::from(c);
         StartNo::nth(usize::from(self.moves.get(at).copied().unwrap_or(0)))
     }
 
-    // The map of a start.
+    // The map of a start; of a number that has no row, the map that sends all to 0.
     pub fn map(&self, start: StartNo) -> StateMap
+        ensures entry { result ≡ unwrap_or (slice_get (rows self.now.maps.now) start) (identity 0) }
         ensures value { start < self.now.count → result ≡ row_of self.now.maps.now start }
     {
-        StateMap::get(self.maps, usize::from(start)).unwrap_or_else(|| StateMap::identity(0))
+        StateMap::get(self.maps, usize::from(start)).unwrap_or(StateMap::identity(0))
     }
 
     // The start of a map, of those that there are.
