@@ -150,7 +150,7 @@ impl Judging for SetMachine<'_> {
     }
 }
 
-// The set machine as a machine with one move for each state and byte.
+// The set machine as a deterministic machine, which the start machine can stand over.
 impl Automaton for SetMachine<'_> {
     type State = SetNo;
 

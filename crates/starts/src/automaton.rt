@@ -1,4 +1,4 @@
-// Machines with one move for each state and byte (in the field: complete deterministic automata).
+// Deterministic machines: in each state a byte leads to just one (complete deterministic automata).
 ghost use Rattle.std.specs.Prelude.{◌≡◌, ℕ, ◌%◌, ◌<◌, ◌≤◌, List, [], Decides, MatchBool};
 ghost use Rattle.folding.specs.Sets.{Hopeful, Lost};
 ghost use Rattle.folding.specs.Texts.{Bytes};

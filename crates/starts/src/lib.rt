@@ -1,4 +1,4 @@
-// The start machine, over any machine with one move for each state and byte. It knows no pattern.
+// The start machine, over any deterministic machine of at most 64 states. It knows no pattern.
 #![tactic(auto)]
 
 pub mod automaton;

@@ -30,10 +30,10 @@ impl SetMap {
     }
 
     // Sends one set elsewhere.
-    pub(crate) fn set(&mut self, from: SetNo, to: SetNo)
-        ensures value { self.new ≡ record { to = slice_set self.old.to from to } }
+    pub(crate) fn set(&mut self, number: SetNo, to: SetNo)
+        ensures value { self.new ≡ record { to = slice_set self.old.to number to } }
     {
-        self.to[usize::from(from)] = to;
+        self.to[usize::from(number)] = to;
     }
 
     // First this one, then `second`.
