@@ -1,4 +1,4 @@
--- What the check of a bundle answers, in terms of its bytes, the notation, the meaning and the plain roll. Assumes nothing.
+-- What the check of a bundle answers, in terms of its bytes, the notation, the meaning, what its texts reach and the plain roll. Assumes nothing.
 --
 --   rows             how many starts a check has room for
 --   Started e ss r   r is what the strips ss come to under a pattern that is read as e, once its sets are built: the fault of its starts, or their

@@ -1,4 +1,4 @@
--- The whole law: a pattern, a machine of it, and the rolls under that machine beside those under another. Assumes nothing.
+-- The whole law: what every machine of a pattern means; and a pattern, a machine of it, and the rolls under that machine beside those under another. Assumes nothing.
 --
 --   MeansPattern p M   M is exactly the set of texts that the pattern p means, by the expression that p is read as
 --   OfPattern p t      p is read, and t are the place machine's tables of the expression that it is read as

@@ -21,11 +21,11 @@ use crate::set::setno::SetNo;
 use folding::fold::{Folding, Judging};
 use starts::Automaton;
 
-// How many bytes `extend` walks first, from every set.
+// How many bytes `extend` walks before it looks again how few sets they lead to.
 const FIRST_PIECE: usize = 16;
 
-// Over the tables that a granted build left. It steps by them alone; of the place machine it keeps
-// what a set accepts.
+// Over the tables that a granted build left. It steps by them alone; of the place machine it asks only
+// which states accept.
 #[derive(Clone, Copy)]
 pub struct SetMachine<'a> {
     place: PlaceMachine,
@@ -127,7 +127,7 @@ impl Folding for SetMachine<'_> {
         let mut map = *at;
         let mut done = 0;
         while done < text.len() {
-            // As long as all that came before: the longer a text, the fewer sets it leads to.
+            // As long as all that came before: a longer text mostly leads to fewer sets.
             let end = (2 * done).max(FIRST_PIECE).min(text.len());
             map = self.onward(&map, &text[done..end]);
             done = end;

@@ -4,7 +4,8 @@ use Rattle.std.specs.List.{slice_get}
 use Rattle.std.proofs.lemmas.List.{take-take, take-append-le, length-take, length-take-le, length_push}
 use Rattle.std.proofs.lemmas.Option.{slice_get_within}
 use Rattle.numbering.specs.Reaching.{MoreThan}
-use Rattle.numbering.specs.Searching.{Progress, Fit, Reading, MeetsIn}
+use Rattle.numbering.specs.Searching.{Progress, Reading, MeetsIn}
+use Rattle.numbering.specs.Filling.{Fit}
 use Rattle.numbering.proofs.Listing.{front_at}
 use Rattle.numbering.proofs.Searching.{goes_on, like, full}
 

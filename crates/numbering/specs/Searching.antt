@@ -4,13 +4,13 @@
 --                                     them, in the order of first meeting
 --   Progress first next n m ..        the two tables, which were and are, begin with n such points and m such moves; past them nothing
 --                                     has changed
---   Fit limit points moves            the tables have 256 moves to each point, and the moves can hold their numbers
 --   Reading first next limit ..       where the tables fit and were so far, they are so far now
 --   MeetsIn n were p k n' are          the same of the first n points in a table that was and is, with no change past them
 --   Meets points p k met              p has the number k among the points met with it, which are the points and p behind them if it is new
 --   Likes next n likes                to each of the first n bytes one that is not after it, and that no point tells apart from it
 use Rattle.std.specs.Prelude.{◌≡◌, ℕ, ◌*◌, ◌/◌, ◌%◌, ◌<◌, ◌≤◌, ◌⊎◌, List, [], ◌∷◌, ◌++◌, length, take, drop, Contains, Some, slice_index}
 use Rattle.std.specs.List.{slice_get}
+use Rattle.numbering.specs.Filling.{Fit}
 use Rattle.numbering.specs.Numbering.{Leads}
 
 pub record Sofar {P : Type 0} (first : P) (next : P → ℕ → P) (points : List P) (moves : List ℕ) : Type 0 where
@@ -27,9 +27,6 @@ pub record Progress {P : Type 0} (first : P) (next : P → ℕ → P) (n m : ℕ
   pub so_far : Sofar first next (take n are) (take m after)
   pub rest : drop n are ≡ drop n were
   pub others : drop m after ≡ drop m before
-
-abbrev pub Fit : {P : Type 0} → ℕ → List P → List ℕ → Type 0
-Fit limit points moves = (length moves ≡ 256 * length points) × (length points ≤ limit)
 
 abbrev pub Reading : {P : Type 0} → P → (P → ℕ → P) → ℕ → ℕ → ℕ → List P → List ℕ → ℕ → ℕ → List P → List ℕ → Type 0
 Reading {P} first next limit n m points moves n' m' points' moves' =

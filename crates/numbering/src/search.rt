@@ -1,9 +1,9 @@
 // The search that numbers the points of a space.
 ghost use Rattle.std.specs.Prelude.{◌≡◌, ℕ, ◌+◌, ◌*◌, ◌/◌, ◌<◌, ◌≤◌, ◌⊎◌, List, length, map, take, drop, Contains, MatchOption};
-ghost use Rattle.numbering.specs.Filling.{Fills};
+ghost use Rattle.numbering.specs.Filling.{Fills, Fit};
 ghost use Rattle.numbering.specs.Laws.{NumberingLaws};
 ghost use Rattle.numbering.specs.Reaching.{MoreThan};
-ghost use Rattle.numbering.specs.Searching.{Likes, Progress, Fit, Reading, MeetsIn};
+ghost use Rattle.numbering.specs.Searching.{Likes, Progress, Reading, MeetsIn};
 
 use crate::entry::Entry;
 use crate::space::{Point, Space};

@@ -1,7 +1,8 @@
 -- Where a text leads by the moves of a start machine, and what that machine is. Assumes nothing.
 --
 --   leg moves w                  the number of the start that the text w leads to from start 0
---   StartBuilt k moved maps M N leg   the machine that means the texts of M and has `leg` for its legs, over an automaton that means those of N:
+--   StartBuilt k moved n maps M N leg   the machine that means the texts of M and has `leg` for its legs, over an automaton that means those of N:
+--     within   the leg of a text is one of the n starts
 --     makes    the map of the start that the text w leads to is the map that w makes of the automaton's states
 --     means    M holds of exactly the texts that the automaton means
 --     joins    the map of the leg of two texts joined is the maps of their legs composed, the first one first

@@ -110,7 +110,7 @@ impl<'a, A: Automaton> StartMachine<'a, A> {
         self.start_of(&both)
     }
 
-    // The number of the state that texts of this leg lead to.
+    // The state that texts of this leg lead to.
     fn state(&self, at: StartNo) -> A::State
         ensures value { (w : List ℕ) → Bytes w → at ≡ leg_of self.now.moves.now w → A.number result ≡ led (A.moved self.now.automaton.now) w 0 }
     {

@@ -1,5 +1,6 @@
 use Rattle.std.proofs.Common.{◌≡◌, ◌-◌, ◌*◌, ◌≤◌, length, map}
-use Rattle.numbering.specs.Searching.{Progress, Fit}
+use Rattle.numbering.specs.Searching.{Progress}
+use Rattle.numbering.specs.Filling.{Fit}
 use Rattle.numbering.proofs.search.number.Given as goal
 
 abbrev pub invariant-loop-row : goal.invariant-loop-row
