@@ -4,17 +4,16 @@ use Rattle.fault.specs.declared.Fault.{Fault}
 use Rattle.fault.specs.declared.Refusal.TheVariants.{TooManySets, TooManyStarts}
 use Rattle.machines.specs.declared.place.tables.Tables.{Tables}
 use Rattle.machines.specs.Set.Building.{MoreMasks, SetsRefused}
-use Rattle.starts.specs.Building.{MoreStarts, StartsRefused}
-use Rattle.bundle.specs.Checks.{unbuilt}
+use Rattle.starts.specs.Building.{MoreMaps, StartsRefused, HasRows, unbuilt}
 
 pub sets_refused : (t : Tables) (sets moves sets' moves' : List ℕ) (f : Fault) → length sets ≡ 64 → length moves ≡ 16384 → SetsRefused t sets moves f sets' moves' → MoreMasks t × (f ≡ unbuilt TooManySets 0)
 sets_refused t sets moves sets' moves' f long rows refused =
     ⊎_elim (λ x. absurd (x.0 long)) (λ y. ⊎_elim (λ x. absurd (x.1 rows)) (λ x. (x.2, x.3)) y) refused
 
-pub starts_refused : (k : ℕ) (moved : ℕ → ℕ → ℕ) (maps moves maps' moves' : List ℕ) (f : Fault) → length maps ≡ 6144 → length moves ≡ 24576 → StartsRefused k moved maps moves f maps' moves' → MoreStarts k moved 96 × (f ≡ unbuilt TooManyStarts 96)
+pub starts_refused : (k : ℕ) (moved : ℕ → ℕ → ℕ) (maps moves maps' moves' : List ℕ) (f : Fault) → length maps ≡ 6144 → length moves ≡ 24576 → StartsRefused k moved maps moves f maps' moves' → MoreMaps k moved 96 × (f ≡ unbuilt TooManyStarts 96)
 starts_refused k moved maps moves maps' moves' f long rows refused =
     ⊎_elim (λ x. absurd (x.0 96 (omega arith, omega arith, long)))
     (λ y.
     let is : y.0 ≡ 96 = let has = y.1.2 in omega (arith, has, long) in
-    ⊎_elim (λ x. absurd (x.0 (rows ∙ ap (λ r. 256 * r) (sym is)))) (λ x. (subst (MoreStarts k moved) is x.1, x.2 ∙ ap (unbuilt TooManyStarts) is)) y.2)
+    ⊎_elim (λ x. absurd (x.0 (rows ∙ ap (λ r. 256 * r) (sym is)))) (λ x. (subst (MoreMaps k moved) is x.1, x.2 ∙ ap (unbuilt TooManyStarts) is)) y.2)
     refused

@@ -11,13 +11,12 @@
 use Rattle.std.specs.Prelude.{◌≡◌, ℕ, ◌⊎◌, List, Ok, Err, Result}
 use Rattle.fault.specs.Lines.{line}
 use Rattle.fault.specs.declared.Fault.{Fault}
-use Rattle.fault.specs.declared.Layer.TheVariants.{Build}
-use Rattle.fault.specs.declared.Refusal.{Refusal}
 use Rattle.fault.specs.declared.Refusal.TheVariants.{TooManySets, TooManyStarts}
 use Rattle.machines.specs.Reached.{MoreSets, MoreStarts}
 use Rattle.notation.specs.Expressions.{Regex}
 use Rattle.notation.specs.Meaning.{Matches}
 use Rattle.notation.specs.Reading.{ReadAs, Refused}
+use Rattle.starts.specs.Building.{unbuilt}
 use Rattle.bundle.specs.Layout.{Piece, written}
 use Rattle.bundle.specs.Lines.{lines}
 use Rattle.bundle.specs.Outcome.{opened, filed, Reported}
@@ -27,9 +26,6 @@ use Rattle.bundle.specs.declared.report.Report.{Report}
 
 abbrev pub rows : ℕ
 rows = 96
-
-abbrev pub unbuilt : Refusal → ℕ → Fault
-unbuilt why at = record { refusal = why; layer = Build; place = at }
 
 abbrev pub Started : Regex → List Piece → Result Report Fault → Type 0
 Started e ss r =

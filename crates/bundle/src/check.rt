@@ -53,7 +53,7 @@ fn judge(pattern: &Pattern, set: &SetMachine, strips: Strips) -> Result<Report, 
     let mut maps = [0; 64 * ROWS];
     let mut moves = [0; 256 * ROWS];
     let count = build_starts(set, &mut maps, &mut moves)?;
-    let machine = start_machine_of::<PlaceMachine>(pattern, set, count, &maps, &moves);
+    let machine = start_machine_of::<SetMachine, PlaceMachine>(pattern, set, count, &maps, &moves);
     let mut legs = [machine.empty(); CELLS];
     let mut tallies = [Tallying.empty(); CELLS];
     let mut lent = LentMut {

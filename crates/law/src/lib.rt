@@ -1,7 +1,10 @@
 // Where patterns, machines and rolls meet: the machines of a pattern, and the whole law with each.
 #![tactic(auto)]
 
-ghost use Rattle.law.specs.Whole.{Every, OfPattern, Whole};
+ghost use Rattle.law.specs.Whole.{Every, MeansPattern, OfPattern, Whole};
+ghost use Rattle.notation.specs.Reading.{Readable};
+ghost use Rattle.roll.specs.Law.{Law};
+ghost use Rattle.std.specs.Prelude.{◌≡◌};
 ghost use Rattle.machines.specs.Set.Starting.{StartsReached};
 ghost use Rattle.machines.specs.Set.Tables.{SetTables};
 ghost use Rattle.starts.specs.Starts.{StartTables};
@@ -33,6 +36,7 @@ pub fn set_machine_of<'a, O: Judging>(
 ) -> SetMachine<'a>
     requires of { OfPattern pattern.now place.tables }
     requires tables { SetTables place.tables count sets.now moves.now }
+    ensures over { (result.place ≡ place) × (result.count ≡ count) × (result.sets.now ≡ sets.now) × (result.moves.now ≡ moves.now) }
     ensures of { OfPattern pattern.now result.place.tables }
     ensures starts { StartsReached result.place.tables result.count result.moves.now }
     ensures whole { (o : O)
@@ -42,9 +46,10 @@ pub fn set_machine_of<'a, O: Judging>(
     SetMachine::new(place, count, sets, moves)
 }
 
-// The start machine of the same pattern, over the tables that a granted build left. `every` says of all
-// three kinds of machine what `whole` says of this one: that it means what its pattern means.
-pub fn start_machine_of<'a, O: Judging>(
+// The start machine of the same pattern, over the tables that a granted build left. Its contract has the
+// whole in one place: `every` says of all three kinds of machine what `whole` says of this one, that it
+// means what its pattern means, and `law` holds of the rolls under machines of any two kinds M and O.
+pub fn start_machine_of<'a, M: Judging, O: Judging>(
     pattern: &Pattern,
     set: &'a SetMachine<'a>,
     count: usize,
@@ -53,10 +58,14 @@ pub fn start_machine_of<'a, O: Judging>(
 ) -> StartMachine<'a, SetMachine<'a>>
     requires of { OfPattern pattern.now set.now.place.tables }
     requires tables { StartTables (⟦<SetMachine<'a> as Automaton>⟧.count set.now) (⟦<SetMachine<'a> as Automaton>⟧.moved set.now) count maps.now moves.now }
+    ensures over { (result.automaton.now ≡ set.now) × (result.count ≡ count) × (result.maps.now ≡ maps.now) × (result.moves.now ≡ moves.now) }
+    ensures read { Readable pattern.now }
+    ensures means { MeansPattern pattern.now (⟦<StartMachine<'a, SetMachine<'a>> as Judging>⟧.means result) }
+    ensures every { Every (λ m. m.automaton.now) (⟦<PlaceMachine as Judging>⟧.means) (⟦<SetMachine<'a> as Judging>⟧.means) (⟦<StartMachine<'a, SetMachine<'a>> as Judging>⟧.means) }
+    ensures law { (m : M) (o : O) → Law (M.Folding.leg m) (M.Judging.means m) (O.Folding.leg o) (O.Judging.means o) }
     ensures whole { (o : O)
         → Whole pattern.now (⟦<StartMachine<'a, SetMachine<'a>> as Folding>⟧.leg result) (⟦<StartMachine<'a, SetMachine<'a>> as Judging>⟧.means result)
         (O.Folding.leg o) (O.Judging.means o) }
-    ensures every { Every (λ m. m.automaton.now) (⟦<PlaceMachine as Judging>⟧.means) (⟦<SetMachine<'a> as Judging>⟧.means) (⟦<StartMachine<'a, SetMachine<'a>> as Judging>⟧.means) }
 {
     StartMachine::new(set, count, maps, moves)
 }

@@ -4,7 +4,9 @@ ghost use Rattle.std.specs.Prelude.{◌≡◌, ◌+◌, ◌*◌, ◌%◌, ◌<�
 ghost use Rattle.folding.specs.Legs.{Extends};
 ghost use Rattle.machines.specs.Place.Shown.Machine.{made_inhabited};
 ghost use Rattle.machines.specs.Place.Tables.{Meant};
-ghost use Rattle.machines.specs.Set.Runs.{led, moved_by, transformation};
+ghost use Rattle.starts.specs.Automata.{led};
+ghost use Rattle.starts.specs.Runs.{move_of};
+ghost use Rattle.machines.specs.Set.Runs.{moved_by, transformation};
 ghost use Rattle.machines.specs.Set.Built.{SetBuilt};
 ghost use Rattle.machines.specs.Set.Shown.{moved_within};
 ghost use Rattle.machines.specs.Set.Starting.{StartsReached};
@@ -43,7 +45,7 @@ impl<'a> SetMachine<'a> {
         moves: &'a [u8],
     ) -> SetMachine<'a>
         requires tables { SetTables place.tables count sets.now moves.now }
-        ensures place { result.place ≡ place }
+        ensures over { (result.place ≡ place) × (result.count ≡ count) × (result.sets.now ≡ sets.now) × (result.moves.now ≡ moves.now) }
         ensures starts { StartsReached result.place.tables result.count result.moves.now }
         ensures built { SetBuilt place.tables count sets.now (⟦<SetMachine<'a> as Judging>⟧.means result) (⟦<SetMachine<'a> as Folding>⟧.leg result) }
     {
@@ -65,7 +67,7 @@ impl<'a> SetMachine<'a> {
 
     // Where the text leads from a set.
     fn walk(&self, from: SetNo, text: &[u8]) -> SetNo
-        ensures value { from < self.now.count → result ≡ led self.now.moves.now text.now from }
+        ensures value { from < self.now.count → result ≡ led (move_of self.now.moves.now) text.now from }
     {
         let mut at = from;
         for c in text {

@@ -3,7 +3,7 @@ use Rattle.std.proofs.Common.{◌≡◌, ℕ, ◌+◌, ◌<◌, List, cond, ltb,
 use Rattle.std.proofs.lemmas.Bool.{cases_eq, cases_lt, lt-ltb, le-ltb, cond-true, cond-false}
 use Rattle.std.proofs.lemmas.List.{length-replicate, get_or-replicate, get_or-set_same, get_or-set_other}
 use Rattle.std.proofs.lemmas.List.FromFn.{fill_by_all}
-use Rattle.starts.specs.Maps.{map_of, moved_by, to}
+use Rattle.starts.specs.Maps.{map_of, then_byte, to}
 use Rattle.starts.specs.declared.statemap.StateMap.{StateMap}
 
 -- the first n entries are those of f, and the others are 0
@@ -45,5 +45,5 @@ filled_all f n upto to filled all i = record {
 }
 
 -- bytes that lead alike from each state make one map of each
-pub same_moved : (n : ℕ) (moved : ℕ → ℕ → ℕ) (b c : ℕ) → ((k : ℕ) → k < 64 → moved k b ≡ moved k c) → (m : StateMap) → moved_by n moved m b ≡ moved_by n moved m c
+pub same_moved : (n : ℕ) (moved : ℕ → ℕ → ℕ) (b c : ℕ) → ((k : ℕ) → k < 64 → moved k b ≡ moved k c) → (m : StateMap) → then_byte n moved m b ≡ then_byte n moved m c
 same_moved n moved b c same m i = map_of n (λ s. same (to m s) (omega arith) i)

@@ -5,7 +5,7 @@ use Rattle.folding.specs.Texts.{Bytes}
 use Rattle.folding.proofs.Gathering.{associative}
 use Rattle.folding.proofs.Texts.{bytes_append}
 use Rattle.starts.specs.Automata.{led}
-use Rattle.starts.specs.Maps.{to, composed, moved_by, made}
+use Rattle.starts.specs.Maps.{to, composed, then_byte, made}
 use Rattle.starts.specs.Runs.{move_of, leg, StartBuilt}
 use Rattle.starts.specs.Starts.{row, Follows}
 use Rattle.starts.specs.declared.statemap.StateMap.{StateMap}
@@ -27,7 +27,7 @@ module _ (k : ℕ) (moved : ℕ → ℕ → ℕ) (n : ℕ) (maps moves : List �
   leads_on [] v r v_bytes bytes low is = (low, is ∙ ap (made k moved) (sym (append-nil v)))
   leads_on (c ∷ w) v r v_bytes bytes low is =
       let (next, same) = follows.5 r c low bytes.0 in
-      let one : row maps (move_of moves r c) ≡ made k moved (v ++ (c ∷ [])) = same_map _ _ same ∙ ap (λ m. moved_by k moved m c) is ∙ made_push k moved few.1 closed v c v_bytes in
+      let one : row maps (move_of moves r c) ≡ made k moved (v ++ (c ∷ [])) = same_map _ _ same ∙ ap (λ m. then_byte k moved m c) is ∙ made_push k moved few.1 closed v c v_bytes in
       let (last, there) = leads_on w (v ++ (c ∷ [])) _ (bytes_append v (c ∷ []) v_bytes (bytes.0, tt)) bytes.1 next one in
       (last, there ∙ ap (made k moved) (append_assoc v (c ∷ []) w))
 

@@ -7,7 +7,7 @@ use Rattle.numbering.proofs.Blanking.{blank_after}
 use Rattle.numbering.specs.Filling.{Fills, Moves}
 use Rattle.numbering.specs.Laws.{NumberingLaws}
 use Rattle.starts.specs.Building.{StartsGranted}
-use Rattle.starts.specs.Maps.{identity, moved_by, rows}
+use Rattle.starts.specs.Maps.{identity, then_byte, rows}
 use Rattle.starts.specs.Starts.{row}
 use Rattle.starts.proofs.Rows.{length_rows, row_at}
 
@@ -39,7 +39,7 @@ unchanged n height were are long_were long_are rest =
         ∙ ap (λ k. get_or (rows were) k d) on
         ∙ get_or_from_slice_get (rows were) r (row were r) d (row_at were r (omega arith)))
 
-pub granted : (k : ℕ) (moved : ℕ → ℕ → ℕ) (n height : ℕ) (were are before after : List ℕ) → height ≤ 512 → were ≡ replicate (64 * height) 0 → before ≡ replicate (256 * height) 0 → length are ≡ 64 * height → length after ≡ 256 * height → NumberingLaws (identity k) (moved_by k moved) → Fills (identity k) (moved_by k moved) n (rows were) (rows are) (map (λ i. i) before) (map (λ i. i) after) → StartsGranted k moved n are after
+pub granted : (k : ℕ) (moved : ℕ → ℕ → ℕ) (n height : ℕ) (were are before after : List ℕ) → height ≤ 512 → were ≡ replicate (64 * height) 0 → before ≡ replicate (256 * height) 0 → length are ≡ 64 * height → length after ≡ 256 * height → NumberingLaws (identity k) (then_byte k moved) → Fills (identity k) (then_byte k moved) n (rows were) (rows are) (map (λ i. i) before) (map (λ i. i) after) → StartsGranted k moved n are after
 granted k moved n height were are before after most no_maps no_moves long rows_long laws fills =
     let tall : length are / 64 ≡ height = omega arith in
     let few : n ≤ length are / 64 = omega (arith, fills.count, length-take n (rows are), length_rows are) in (
@@ -50,7 +50,7 @@ granted k moved n height were are before after most no_maps no_moves long rows_l
         most = omega arith;
         long = rows_long ∙ ap (λ h. 256 * h) (sym tall);
         numbers = fills.numbers;
-        steps = subst (λ moves. Moves (moved_by k moved) (take n (rows are)) (take (256 * n) moves)) (map-id after) fills.moved;
+        steps = subst (λ moves. Moves (then_byte k moved) (take n (rows are)) (take (256 * n) moves)) (map-id after) fills.moved;
         rest = blank_after (64 * n) (64 * height) were are no_maps long (unchanged n height were are (ap length no_maps ∙ length-replicate (64 * height) 0) long fills.rest);
         others = blank_after (256 * n) (256 * height) before after no_moves rows_long (ap (drop (256 * n)) (sym (map-id after)) ∙ fills.others ∙ ap (drop (256 * n)) (map-id before));
       },

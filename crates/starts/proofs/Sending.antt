@@ -5,7 +5,7 @@ use Rattle.std.proofs.lemmas.Bool.{cases_lt, lt-ltb, le-ltb, cond-true, cond-fal
 use Rattle.std.proofs.lemmas.List.FromFn.{get_or-map-range_with_len}
 use Rattle.folding.specs.Texts.{Bytes}
 use Rattle.starts.specs.Automata.{led}
-use Rattle.starts.specs.Maps.{map_of, to, identity, composed, moved_by, made}
+use Rattle.starts.specs.Maps.{map_of, to, identity, composed, then_byte, made}
 use Rattle.starts.proofs.Leading.{led_none, led_append, led_push, led_below}
 
 pub same_maps : (k : ℕ) (f g : ℕ → ℕ) → ((s : ℕ) → s < k → f s ≡ g s) → map_of k f ≡ map_of k g
@@ -29,7 +29,7 @@ module _ (k : ℕ) (moved : ℕ → ℕ → ℕ) (few : k ≤ 64) (closed : (s c
   pub made_at : (w : List ℕ) (s : ℕ) → Bytes w → s < k → to (made k moved w) s ≡ led moved w s
   made_at w s bytes low = let within = led_below moved k closed w s bytes low in sends_at k few (led moved w) s low (omega arith)
 
-  pub made_push : (w : List ℕ) (c : ℕ) → Bytes w → moved_by k moved (made k moved w) c ≡ made k moved (w ++ (c ∷ []))
+  pub made_push : (w : List ℕ) (c : ℕ) → Bytes w → then_byte k moved (made k moved w) c ≡ made k moved (w ++ (c ∷ []))
   made_push w c bytes = same_maps k _ _ (λ s low. ap (λ t. moved t c) (made_at w s bytes low) ∙ sym (led_push moved w c s))
 
   pub made_joined : (v w : List ℕ) → Bytes v → Bytes w → composed k (made k moved v) (made k moved w) ≡ made k moved (v ++ w)

@@ -4,7 +4,7 @@ use Rattle.std.specs.List.{slice_get}
 use Rattle.std.specs.Option.{unwrap_or}
 use Rattle.std.proofs.lemmas.List.{length-take, length-take-le, get_or-take}
 use Rattle.std.proofs.lemmas.Option.{slice_get_within, slice_get-get_or, get_or_from_slice_get}
-use Rattle.starts.specs.Maps.{identity, moved_by, rows}
+use Rattle.starts.specs.Maps.{identity, then_byte, rows}
 use Rattle.starts.specs.Starts.{row, StartTables, Follows}
 use Rattle.starts.specs.declared.statemap.StateMap.{StateMap}
 use Rattle.starts.proofs.Rows.{length_rows, row_at}
@@ -43,13 +43,13 @@ tables_follow k moved n maps moves tables = (first.0, let most = tables.most in 
     first : (0 < n) × (row maps 0 ≡ identity k)
     first = front n maps few 0 (identity k) tables.numbers.begins
 
-    leads : (r c : ℕ) → r < n → c < 256 → (get_or moves (256 * r + c) 0 < n) × ((row maps (get_or moves (256 * r + c) 0)).to ≡ (moved_by k moved (row maps r) c).to)
+    leads : (r c : ℕ) → r < n → c < 256 → (get_or moves (256 * r + c) 0 < n) × ((row maps (get_or moves (256 * r + c) 0)).to ≡ (then_byte k moved (row maps r) c).to)
     leads r c low byte =
         let (j, moves_to, l) = tables.steps r c (subst (λ m. r < m) (sym (length_front n maps few)) low) byte in
-        let (within, is) = front n maps few j (moved_by k moved l.point c) l.to in
+        let (within, is) = front n maps few j (then_byte k moved l.point c) l.to in
         let from : row maps r ≡ l.point = (front n maps few r l.point l.from).1 in
-        subst (λ i. (i < n) × ((row maps i).to ≡ (moved_by k moved (row maps r) c).to)) (sym (moves_front (256 * n) moves (256 * r + c) j moves_to))
-        (within, ap (λ m. m.to) (is ∙ ap (λ m. moved_by k moved m c) (sym from)))
+        subst (λ i. (i < n) × ((row maps i).to ≡ (then_byte k moved (row maps r) c).to)) (sym (moves_front (256 * n) moves (256 * r + c) j moves_to))
+        (within, ap (λ m. m.to) (is ∙ ap (λ m. then_byte k moved m c) (sym from)))
 
     once : (i j : ℕ) → i < n → j < n → (row maps i).to ≡ (row maps j).to → i ≡ j
     once i j i_low j_low same =

@@ -1,7 +1,8 @@
 -- What the build of the start machine's tables answers, and what it leaves in the two tables that it is lent. Assumes nothing.
 --
---   MoreStarts k moved r             more than r different maps are made by texts, in an automaton with k states
+--   MoreMaps k moved r             more than r different maps are made by texts, in an automaton with k states
 --   StartsGranted k moved n ..       there are n starts, which is not more than there are rows, and the tables are theirs
+--   unbuilt why at                   a fault of the layer build
 --   HasRows maps r                   the table of maps has r rows, 1 to 512
 --   StartsRefused k moved .. f ..    the fault f, by the tables that were lent and what is left in them: the wrong length of the maps first, then that of
 --                                    the moves, and nothing has changed; or more starts than rows, at their number, and both tables are all zero
@@ -11,24 +12,24 @@ use Rattle.fault.specs.declared.Layer.TheVariants.{Build}
 use Rattle.fault.specs.declared.Refusal.{Refusal}
 use Rattle.fault.specs.declared.Refusal.TheVariants.{TableLength, TooManyStarts}
 use Rattle.numbering.specs.Reaching.{MoreThan}
-use Rattle.starts.specs.Maps.{identity, moved_by}
+use Rattle.starts.specs.Maps.{identity, then_byte}
 use Rattle.starts.specs.Starts.{StartTables}
 
-abbrev pub refused : Refusal → ℕ → Fault
-refused r at = record { refusal = r; layer = Build; place = at }
+abbrev pub unbuilt : Refusal → ℕ → Fault
+unbuilt r at = record { refusal = r; layer = Build; place = at }
 
-abbrev pub MoreStarts : ℕ → (ℕ → ℕ → ℕ) → ℕ → Type 0
-MoreStarts k moved r = MoreThan r (identity k) (moved_by k moved)
+abbrev pub MoreMaps : ℕ → (ℕ → ℕ → ℕ) → ℕ → Type 0
+MoreMaps k moved r = MoreThan r (identity k) (then_byte k moved)
 
 abbrev pub HasRows : List ℕ → ℕ → Type 0
 HasRows maps r = (1 ≤ r) × (r ≤ 512) × (length maps ≡ 64 * r)
 
 abbrev pub StartsGranted : ℕ → (ℕ → ℕ → ℕ) → ℕ → List ℕ → List ℕ → Type 0
-StartsGranted k moved n maps moves = (MoreStarts k moved (length maps / 64) → ⊥) × StartTables k moved n maps moves
+StartsGranted k moved n maps moves = (MoreMaps k moved (length maps / 64) → ⊥) × StartTables k moved n maps moves
 
 abbrev pub StartsRefused : ℕ → (ℕ → ℕ → ℕ) → List ℕ → List ℕ → Fault → List ℕ → List ℕ → Type 0
 StartsRefused k moved maps moves f maps' moves' =
-    (((r : ℕ) → HasRows maps r → ⊥) × (f ≡ refused TableLength 0) × (maps' ≡ maps) × (moves' ≡ moves))
+    (((r : ℕ) → HasRows maps r → ⊥) × (f ≡ unbuilt TableLength 0) × (maps' ≡ maps) × (moves' ≡ moves))
     ⊎ ((r : ℕ) × HasRows maps r × (
-    ((length moves ≢ 256 * r) × (f ≡ refused TableLength 1) × (maps' ≡ maps) × (moves' ≡ moves))
-    ⊎ ((length moves ≡ 256 * r) × MoreStarts k moved r × (f ≡ refused TooManyStarts r) × (maps' ≡ replicate (64 * r) 0) × (moves' ≡ replicate (256 * r) 0))))
+    ((length moves ≢ 256 * r) × (f ≡ unbuilt TableLength 1) × (maps' ≡ maps) × (moves' ≡ moves))
+    ⊎ ((length moves ≡ 256 * r) × MoreMaps k moved r × (f ≡ unbuilt TooManyStarts r) × (maps' ≡ replicate (64 * r) 0) × (moves' ≡ replicate (256 * r) 0))))

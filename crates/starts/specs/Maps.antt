@@ -4,7 +4,7 @@
 --   to m s                 where m sends s
 --   identity n             each of n states stays where it is
 --   composed n a b         a and then b
---   moved_by n moved m c   m and then the byte c
+--   then_byte n moved m c   m and then the byte c
 --   made n moved w         the map that the text w makes
 --   rows cells             the maps that a table of cells holds
 use Rattle.std.specs.Prelude.{ℕ, ◌+◌, ◌*◌, ◌/◌, ◌%◌, cond, List, length, map, nat_lt, slice_index, slice_range}
@@ -24,8 +24,8 @@ identity n = map_of n (λ s. s)
 abbrev pub composed : ℕ → StateMap → StateMap → StateMap
 composed n a b = map_of n (λ s. to b (to a s))
 
-abbrev pub moved_by : ℕ → (ℕ → ℕ → ℕ) → StateMap → ℕ → StateMap
-moved_by n moved m c = map_of n (λ s. moved (to m s) c)
+abbrev pub then_byte : ℕ → (ℕ → ℕ → ℕ) → StateMap → ℕ → StateMap
+then_byte n moved m c = map_of n (λ s. moved (to m s) c)
 
 abbrev pub made : ℕ → (ℕ → ℕ → ℕ) → List ℕ → StateMap
 made n moved w = map_of n (led moved w)

@@ -6,7 +6,7 @@
 use Rattle.std.specs.Prelude.{◌≡◌, ℕ, ◌+◌, ◌*◌, ◌/◌, ◌<◌, ◌≤◌, List, length, take, slice_index, slice_range}
 use Rattle.numbering.specs.Filling.{Moves, Blank}
 use Rattle.numbering.specs.Numbering.{Numbering}
-use Rattle.starts.specs.Maps.{identity, moved_by, rows}
+use Rattle.starts.specs.Maps.{identity, then_byte, rows}
 use Rattle.starts.specs.declared.statemap.StateMap.{StateMap}
 
 pub record StartTables (k : ℕ) (moved : ℕ → ℕ → ℕ) (n : ℕ) (maps moves : List ℕ) : Type 0 where
@@ -14,8 +14,8 @@ pub record StartTables (k : ℕ) (moved : ℕ → ℕ → ℕ) (n : ℕ) (maps m
   pub room : length maps ≡ 64 * (length maps / 64)
   pub most : length maps / 64 ≤ 512
   pub long : length moves ≡ 256 * (length maps / 64)
-  pub numbers : Numbering (identity k) (moved_by k moved) (take n (rows maps))
-  pub steps : Moves (moved_by k moved) (take n (rows maps)) (take (256 * n) moves)
+  pub numbers : Numbering (identity k) (then_byte k moved) (take n (rows maps))
+  pub steps : Moves (then_byte k moved) (take n (rows maps)) (take (256 * n) moves)
   pub rest : Blank (64 * n) maps
   pub others : Blank (256 * n) moves
 
@@ -30,5 +30,5 @@ Follows k moved n maps moves =
     × (64 * n ≤ length maps)
     × (256 * n ≤ length moves)
     × ((row maps 0).to ≡ (identity k).to)
-    × ((r c : ℕ) → r < n → c < 256 → (slice_index moves (256 * r + c) < n) × ((row maps (slice_index moves (256 * r + c))).to ≡ (moved_by k moved (row maps r) c).to))
+    × ((r c : ℕ) → r < n → c < 256 → (slice_index moves (256 * r + c) < n) × ((row maps (slice_index moves (256 * r + c))).to ≡ (then_byte k moved (row maps r) c).to))
     × ((i j : ℕ) → i < n → j < n → (row maps i).to ≡ (row maps j).to → i ≡ j)

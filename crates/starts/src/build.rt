@@ -2,7 +2,7 @@
 ghost use Rattle.std.specs.Prelude.{◌≡◌, length, replicate, MatchResult};
 ghost use Rattle.numbering.specs.Laws.{NumberingLaws};
 ghost use Rattle.starts.specs.Building.{StartsGranted, StartsRefused};
-ghost use Rattle.starts.specs.Maps.{identity, moved_by};
+ghost use Rattle.starts.specs.Maps.{identity, then_byte};
 
 use crate::automaton::Automaton;
 use crate::statemap::StateMap;
@@ -22,7 +22,7 @@ struct Maps<'a, A> {
 impl<A: Automaton> Space<StateMap> for Maps<'_, A> {
     ghost first = { λ m. identity (A.count m.automaton.now) };
 
-    ghost next = { λ m map c. moved_by (A.count m.automaton.now) (A.moved m.automaton.now) map c };
+    ghost next = { λ m map c. then_byte (A.count m.automaton.now) (A.moved m.automaton.now) map c };
 
     fn first(&self) -> StateMap {
         StateMap::identity(self.automaton.states())
@@ -53,7 +53,7 @@ pub fn build_starts<A: Automaton>(
     moves: &mut [u16],
 ) -> Result<usize, Fault>
     ensures outcome { MatchResult result (λ n. StartsGranted (A.count automaton.now) (A.moved automaton.now) n maps.new moves.new) (λ f. StartsRefused (A.count automaton.now) (A.moved automaton.now) maps.old moves.old f maps.new moves.new) }
-    ensures laws { NumberingLaws (identity (A.count automaton.now)) (moved_by (A.count automaton.now) (A.moved automaton.now)) }
+    ensures laws { NumberingLaws (identity (A.count automaton.now)) (then_byte (A.count automaton.now) (A.moved automaton.now)) }
 {
     let rows = maps.len() / 64;
     if maps.len() != 64 * rows || rows == 0 || rows > MOST_ROWS {

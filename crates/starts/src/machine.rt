@@ -36,6 +36,7 @@ impl<'a, A: Automaton> StartMachine<'a, A> {
         moves: &'a [u16],
     ) -> StartMachine<'a, A>
         requires tables { StartTables (A.count automaton.now) (A.moved automaton.now) count maps.now moves.now }
+        ensures over { (result.automaton.now ≡ automaton.now) × (result.count ≡ count) × (result.maps.now ≡ maps.now) × (result.moves.now ≡ moves.now) }
         ensures built { StartBuilt (A.count automaton.now) (A.moved automaton.now) count maps.now (⟦<StartMachine<'a, A> as Judging>⟧.means result) (A.means automaton.now) (⟦<StartMachine<'a, A> as Folding>⟧.leg result) }
     {
         StartMachine {

@@ -1,6 +1,6 @@
 // Maps of an automaton's states: what a text does to each of them (in the field: a transformation).
 ghost use Rattle.std.specs.Prelude.{◌≡◌, ◌%◌, ◌<◌, ◌≤◌, slice_index};
-ghost use Rattle.starts.specs.Maps.{composed, identity as identity_map, moved_by, rows};
+ghost use Rattle.starts.specs.Maps.{composed, identity as identity_map, then_byte, rows};
 
 use crate::automaton::Automaton;
 use numbering::space::Point;
@@ -33,7 +33,7 @@ impl StateMap {
 
     // First this one, and then the byte.
     pub fn step<A: Automaton>(&self, automaton: &A, c: u8) -> StateMap
-        ensures value { result ≡ moved_by (A.count automaton.now) (A.moved automaton.now) self.now c }
+        ensures value { result ≡ then_byte (A.count automaton.now) (A.moved automaton.now) self.now c }
     {
         let mut to = [0; 64];
         for s in 0..automaton.states() {

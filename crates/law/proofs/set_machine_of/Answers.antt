@@ -8,7 +8,8 @@ pub returns : goal.returns
 returns g c =
     let of = c.requires.of in
     record {
-      of = subst (λ m. OfPattern c.args.pattern.now m.tables) (sym c.new.ensures.place) of;
+      over = c.new.ensures.over;
+      of = subst (λ m. OfPattern c.args.pattern.now m.tables) (sym c.new.ensures.over.0) of;
       starts = c.new.ensures.starts;
       whole = λ o. wholly _ _ _ _ _ of.0 (λ e read. let is = of.1 e read.written in c.new.ensures.built.means e is.0 is.1) (made_inhabited c.new.result.place.tables c.new.result.place.made);
     }

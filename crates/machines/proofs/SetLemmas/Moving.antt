@@ -3,35 +3,22 @@ use Rattle.std.proofs.Common.{◌≡◌, ℕ, suc, ◌+◌, ◌*◌, ◌<◌, �
 use Rattle.std.proofs.Math.ListN.{drop_of_length-le}
 use Rattle.std.proofs.lemmas.Bool.{lt-ltb, le-ltb, cond-true, cond-false, cond_both}
 use Rattle.machines.specs.Set.Maps.{to, identity}
-use Rattle.machines.specs.Set.Runs.{led, transformation}
+use Rattle.starts.specs.Automata.{led}
+use Rattle.starts.specs.Runs.{move_of}
+use Rattle.machines.specs.Set.Runs.{transformation}
 use Rattle.machines.proofs.SetLemmas.Composing.{map_at, same_maps}
 
-pub led_append : (moves v w : List ℕ) (s : ℕ) → led moves (v ++ w) s ≡ led moves w (led moves v s)
-unfolding led
-led_append moves [] w s = refl
-led_append moves (c ∷ v) w s = led_append moves v w (get_or moves (256 * s + c) 0)
-
-pub led_one : (moves : List ℕ) (c s : ℕ) → led moves (c ∷ []) s ≡ get_or moves (256 * s + c) 0
+pub led_one : (moves : List ℕ) (c s : ℕ) → led (move_of moves) (c ∷ []) s ≡ get_or moves (256 * s + c) 0
 unfolding led
 led_one moves c s = refl
 
--- what is left of a text leads on from where its first byte leads
-pub led_more : (moves text : List ℕ) (i at next : ℕ) → i < length text → next ≡ get_or moves (256 * at + get_or text i 0) 0 → led moves (drop (i + 1) text) next ≡ led moves (drop i text) at
-unfolding led
-led_more moves text i at next lt is =
-    ap₂ (led moves) (ap (λ j. drop j text) (let one : i + 1 ≡ suc i = omega arith in one)) is ∙ ap (λ w. led moves w at) (sym (drop-cons text i 0 lt))
-
-pub led_all : (moves text : List ℕ) (i at : ℕ) → length text ≤ i → at ≡ led moves (drop i text) at
-unfolding led
-led_all moves text i at le = ap (λ w. led moves w at) (sym (drop_of_length-le text le))
-
 module _ (n : ℕ) (moves w : List ℕ) (s : ℕ) (low : s < 64) where
   -- what a leg has where there is a set, and where there is none
-  pub leg_at : s < n → to (transformation n moves w) s ≡ led moves w s
-  leg_at lt = map_at (λ s. cond (ltb s n) (led moves w s) s) s low ∙ cond-true _ _ _ (lt-ltb s n lt)
+  pub leg_at : s < n → to (transformation n moves w) s ≡ led (move_of moves) w s
+  leg_at lt = map_at (λ s. cond (ltb s n) (led (move_of moves) w s) s) s low ∙ cond-true _ _ _ (lt-ltb s n lt)
 
   pub leg_past : n ≤ s → to (transformation n moves w) s ≡ s
-  leg_past le = map_at (λ s. cond (ltb s n) (led moves w s) s) s low ∙ cond-false _ _ _ (le-ltb s n le)
+  leg_past le = map_at (λ s. cond (ltb s n) (led (move_of moves) w s) s) s low ∙ cond-false _ _ _ (le-ltb s n le)
 
 pub leg_none : (n : ℕ) (moves : List ℕ) → identity ≡ transformation n moves []
 unfolding led

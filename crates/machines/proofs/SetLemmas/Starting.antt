@@ -12,8 +12,8 @@ use Rattle.numbering.proofs.Numbers.{numbering_laws}
 use Rattle.numbering.specs.Reaching.{after}
 use Rattle.starts.proofs.Leading.{led_append, led_below}
 use Rattle.starts.proofs.Sending.{same_maps, made_at, made_push, made_none}
-use Rattle.starts.specs.Automata.{led as led_by}
-use Rattle.starts.specs.Maps.{identity, made, to, moved_by as moved_map}
+use Rattle.starts.specs.Automata.{led}
+use Rattle.starts.specs.Maps.{identity, made, to, then_byte}
 use Rattle.machines.specs.declared.place.tables.Tables.{Tables}
 use Rattle.machines.specs.Place.Runs.{stepped, run}
 use Rattle.machines.specs.Place.Tables.{TablesOf}
@@ -32,7 +32,7 @@ module _ (t : Tables) (n : ℕ) (sets moves : List ℕ) (tables : SetTables t n 
   simulates = tables_simulate t n sets moves tables
 
   abbrev leads : List ℕ → ℕ → ℕ
-  leads = led_by (moved_by moves)
+  leads = led (moved_by moves)
 
   within : (s c : ℕ) → s < n → c < 256 → moved_by moves s c < n
   within = moved_within t n sets moves simulates
@@ -65,16 +65,16 @@ module _ (t : Tables) (n : ℕ) (sets moves : List ℕ) (tables : SetTables t n 
   few = tables.few
 
   -- the map that the search comes to by a text is the map that the text makes
-  after_made : (w v : List ℕ) → Bytes v → Bytes w → after (moved_map n (moved_by moves)) (made n (moved_by moves) v) w ≡ made n (moved_by moves) (v ++ w)
+  after_made : (w v : List ℕ) → Bytes v → Bytes w → after (then_byte n (moved_by moves)) (made n (moved_by moves) v) w ≡ made n (moved_by moves) (v ++ w)
   unfolding after
   after_made [] v v_bytes bytes = ap (made n (moved_by moves)) (sym (append-nil v))
   after_made (c ∷ w) v v_bytes bytes =
-      ap (λ m. after (moved_map n (moved_by moves)) m w) (made_push n (moved_by moves) few within v c v_bytes)
+      ap (λ m. after (then_byte n (moved_by moves)) m w) (made_push n (moved_by moves) few within v c v_bytes)
       ∙ after_made w (v ++ (c ∷ [])) (bytes_append v (c ∷ []) v_bytes (bytes.0, tt)) bytes.1
       ∙ ap (made n (moved_by moves)) (append_assoc v (c ∷ []) w)
 
-  from_identity : (w : List ℕ) → Bytes w → after (moved_map n (moved_by moves)) (identity n) w ≡ made n (moved_by moves) w
-  from_identity w bytes = ap (λ m. after (moved_map n (moved_by moves)) m w) (made_none n (moved_by moves)) ∙ after_made w [] tt bytes
+  from_identity : (w : List ℕ) → Bytes w → after (then_byte n (moved_by moves)) (identity n) w ≡ made n (moved_by moves) w
+  from_identity w bytes = ap (λ m. after (then_byte n (moved_by moves)) m w) (made_none n (moved_by moves)) ∙ after_made w [] tt bytes
 
   module _ (e : Regex) (sane : Sane e) (of : TablesOf e t) where
     same_start : (v w : List ℕ) → Bytes v → Bytes w → made n (moved_by moves) v ≡ made n (moved_by moves) w → SameStart e v w

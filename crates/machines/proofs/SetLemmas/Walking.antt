@@ -9,13 +9,14 @@ use Rattle.folding.specs.Texts.{Bytes}
 use Rattle.folding.proofs.Texts.{bytes_append, bytes_take}
 use Rattle.machines.specs.declared.set.map.SetMap.{SetMap}
 use Rattle.machines.specs.Set.Maps.{to}
-use Rattle.machines.specs.Set.Runs.{led}
+use Rattle.starts.specs.Automata.{led}
+use Rattle.starts.specs.Runs.{move_of}
 
 -- where a number is marked as walked, `walks` has where the text leads from it
 pub record Walked (n : ℕ) (moves text : List ℕ) (walks : SetMap) (walked : List Bool) : Type 0 where
   pub long : length walks.to ≡ 64
   pub marks : length walked ≡ 64
-  pub right : (k : ℕ) → get_or walked k false ≡ true → k < n → to walks k ≡ led moves text k
+  pub right : (k : ℕ) → get_or walked k false ≡ true → k < n → to walks k ≡ led (move_of moves) text k
 
 pub none_marked : (n k : ℕ) → get_or (replicate n false) k false ≡ false
 none_marked n k =
@@ -26,19 +27,19 @@ none_marked n k =
 
 module _ (n : ℕ) (moves text : List ℕ) (walks walks' : SetMap) (walked walked' : List Bool) (from mark : ℕ) (so_far : Walked n moves text walks walked) (is_from : mark ≡ from) where
   -- one number more, which is marked then
-  pub walked_more : (x : ℕ) → from < 64 → (from < n → x ≡ led moves text from) → walks' ≡ record { to = set walks.to from x } → walked' ≡ set walked mark true → Walked n moves text walks' walked' × (get_or walked' from false ≡ true)
+  pub walked_more : (x : ℕ) → from < 64 → (from < n → x ≡ led (move_of moves) text from) → walks' ≡ record { to = set walks.to from x } → walked' ≡ set walked mark true → Walked n moves text walks' walked' × (get_or walked' from false ≡ true)
   walked_more x low x_is is marked =
       subst (λ b. Walked n moves text walks' b × (get_or b from false ≡ true)) (sym (marked ∙ ap (λ k. set walked k true) is_from)) (
         subst (λ m. Walked n moves text m (set walked from true)) (sym is) (record { long = length-set walks.to from x ∙ so_far.long; marks = length-set walked from true ∙ so_far.marks; right = right }),
         get_or-set_same walked from true false (let long = so_far.marks in omega arith),
       )
     where
-      right : (k : ℕ) → get_or (set walked from true) k false ≡ true → k < n → get_or (set walks.to from x) k 0 ≡ led moves text k
+      right : (k : ℕ) → get_or (set walked from true) k false ≡ true → k < n → get_or (set walks.to from x) k 0 ≡ led (move_of moves) text k
       right k told set_k =
           ⊎_elim
           (λ e.
           ap (λ j. get_or (set walks.to from x) j 0) e ∙ get_or-set_same walks.to from x 0 (let long = so_far.long in omega arith)
-          ∙ x_is (subst (λ j. j < n) e set_k) ∙ ap (led moves text) (sym e))
+          ∙ x_is (subst (λ j. j < n) e set_k) ∙ ap (led (move_of moves) text) (sym e))
           (λ ne. get_or-set_other walks.to from k x 0 ne ∙ so_far.right k (sym (get_or-set_other walked from k true false ne) ∙ told) set_k)
           (cases_eq k from)
 

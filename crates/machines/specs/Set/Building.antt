@@ -6,16 +6,12 @@
 --                                  the moves, and nothing has changed; or more than 64 sets, and both tables are all zero
 use Rattle.std.specs.Prelude.{◌≡◌, ℕ, ◌≢◌, ◌⊎◌, List, length, replicate}
 use Rattle.fault.specs.declared.Fault.{Fault}
-use Rattle.fault.specs.declared.Layer.TheVariants.{Build}
-use Rattle.fault.specs.declared.Refusal.{Refusal}
 use Rattle.fault.specs.declared.Refusal.TheVariants.{TableLength, TooManySets}
 use Rattle.numbering.specs.Reaching.{MoreThan}
+use Rattle.starts.specs.Building.{unbuilt}
 use Rattle.machines.specs.declared.place.tables.Tables.{Tables}
 use Rattle.machines.specs.Place.Runs.{stepped}
 use Rattle.machines.specs.Set.Tables.{start, SetTables}
-
-abbrev pub refused : Refusal → ℕ → Fault
-refused r at = record { refusal = r; layer = Build; place = at }
 
 abbrev pub MoreMasks : Tables → Type 0
 MoreMasks t = MoreThan 64 start (stepped t)
@@ -25,6 +21,6 @@ SetsGranted t n sets moves = (MoreMasks t → ⊥) × SetTables t n sets moves
 
 abbrev pub SetsRefused : Tables → List ℕ → List ℕ → Fault → List ℕ → List ℕ → Type 0
 SetsRefused t sets moves f sets' moves' =
-    ((length sets ≢ 64) × (f ≡ refused TableLength 0) × (sets' ≡ sets) × (moves' ≡ moves))
-    ⊎ ((length sets ≡ 64) × (length moves ≢ 16384) × (f ≡ refused TableLength 1) × (sets' ≡ sets) × (moves' ≡ moves))
-    ⊎ ((length sets ≡ 64) × (length moves ≡ 16384) × MoreMasks t × (f ≡ refused TooManySets 0) × (sets' ≡ replicate 64 0) × (moves' ≡ replicate 16384 0))
+    ((length sets ≢ 64) × (f ≡ unbuilt TableLength 0) × (sets' ≡ sets) × (moves' ≡ moves))
+    ⊎ ((length sets ≡ 64) × (length moves ≢ 16384) × (f ≡ unbuilt TableLength 1) × (sets' ≡ sets) × (moves' ≡ moves))
+    ⊎ ((length sets ≡ 64) × (length moves ≡ 16384) × MoreMasks t × (f ≡ unbuilt TooManySets 0) × (sets' ≡ replicate 64 0) × (moves' ≡ replicate 16384 0))

@@ -5,7 +5,7 @@
 use Rattle.std.specs.Prelude.{ℕ, ◌↔◌, List}
 use Rattle.notation.specs.Expressions.{Regex}
 use Rattle.numbering.specs.Reaching.{MoreThan}
-use Rattle.starts.specs.Maps.{identity, moved_by as moved_map}
+use Rattle.starts.specs.Maps.{identity, then_byte}
 use Rattle.machines.specs.declared.place.tables.Tables.{Tables}
 use Rattle.machines.specs.Place.Tables.{TablesOf}
 use Rattle.machines.specs.Reached.{MoreStarts}
@@ -14,4 +14,4 @@ use Rattle.machines.specs.Soundness.{Sane}
 
 abbrev pub StartsReached : Tables → ℕ → List ℕ → Type 0
 StartsReached t n moves =
-    (e : Regex) → Sane e → TablesOf e t → (r : ℕ) → MoreThan r (identity n) (moved_map n (moved_by moves)) ↔ MoreStarts r e
+    (e : Regex) → Sane e → TablesOf e t → (r : ℕ) → MoreThan r (identity n) (then_byte n (moved_by moves)) ↔ MoreStarts r e

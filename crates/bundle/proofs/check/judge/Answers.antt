@@ -3,7 +3,7 @@ use Rattle.std.proofs.lemmas.List.{length-replicate}
 use Rattle.std.proofs.lemmas.Result.{err_from_is_err_and}
 use Rattle.machines.specs.Set.Runs.{moved_by}
 use Rattle.notation.specs.Meaning.{Matches}
-use Rattle.starts.specs.Building.{MoreStarts}
+use Rattle.starts.specs.Building.{MoreMaps}
 use Rattle.bundle.specs.Handed.{left}
 use Rattle.bundle.proofs.Building.{starts_refused}
 use Rattle.bundle.proofs.Exchanging.{reported_same}
@@ -25,9 +25,8 @@ returns c =
     record {
       started = λ e read of.
           let is = c.requires.of.1 e read.written in
-          let whole = c.start_machine_of-machine.ensures.whole c.args.set.now.place in
           inr (
-            (λ more. c.in_ok-count.ensures.outcome.0 (subst (MoreStarts c.args.set.now.count (moved_by c.args.set.now.moves.now)) (sym rows) ((c.requires.starts e is.0 is.1 96).1 more))),
-            reported_same _ (Matches e) (whole.means e read) (left c.args.strips) _ of c.report.ensures.reported,
+            (λ more. c.in_ok-count.ensures.outcome.0 (subst (MoreMaps c.args.set.now.count (moved_by c.args.set.now.moves.now)) (sym rows) ((c.requires.starts e is.0 is.1 96).1 more))),
+            reported_same _ (Matches e) (c.start_machine_of-machine.ensures.means e read) (left c.args.strips) _ of c.report.ensures.reported,
           );
     }

@@ -2,16 +2,16 @@ use Rattle.std.proofs.Common.{◌≡◌, ℕ, ◌*◌, ◌/◌, ◌≤◌, lengt
 use Rattle.std.proofs.lemmas.List.{map-id}
 use Rattle.numbering.specs.Reaching.{MoreThan}
 use Rattle.numbering.proofs.Numbers.{numbering_laws}
-use Rattle.starts.specs.Maps.{identity, moved_by, rows}
+use Rattle.starts.specs.Maps.{identity, then_byte, rows}
 use Rattle.starts.proofs.Granting.{granted}
 use Rattle.starts.proofs.Rows.{length_rows}
 use Rattle.starts.proofs.build.build_starts.Goals as goal
 
 pub returns-then-maps-rows-clause-laws : goal.returns-then-maps-rows-clause-laws
-returns-then-maps-rows-clause-laws g c = numbering_laws (identity (g.A.Automaton.count c.args.automaton.now)) (moved_by (g.A.Automaton.count c.args.automaton.now) (g.A.Automaton.moved c.args.automaton.now))
+returns-then-maps-rows-clause-laws g c = numbering_laws (identity (g.A.Automaton.count c.args.automaton.now)) (then_byte (g.A.Automaton.count c.args.automaton.now) (g.A.Automaton.moved c.args.automaton.now))
 
 pub returns-then-moves-rows-clause-laws : goal.returns-then-moves-rows-clause-laws
-returns-then-moves-rows-clause-laws g c = numbering_laws (identity (g.A.Automaton.count c.args.automaton.now)) (moved_by (g.A.Automaton.count c.args.automaton.now) (g.A.Automaton.moved c.args.automaton.now))
+returns-then-moves-rows-clause-laws g c = numbering_laws (identity (g.A.Automaton.count c.args.automaton.now)) (then_byte (g.A.Automaton.count c.args.automaton.now) (g.A.Automaton.moved c.args.automaton.now))
 
 -- the tables that the search is lent have the rows, and their moves
 fits : (maps moves : List ℕ) (height : ℕ) → height ≤ 512 → length maps ≡ 64 * height → length moves ≡ 256 * height → (length (map (λ k. k) moves) ≡ 256 * length (rows maps)) × (length (rows maps) ≤ 65536)
@@ -47,7 +47,7 @@ returns-in-None-clause-outcome g c =
       (omega arith, most, c.if-maps-rows.false),
       inr (
         c.if-moves-rows.false,
-        subst (λ n. MoreThan n (identity count) (moved_by count moved)) tall more,
+        subst (λ n. MoreThan n (identity count) (then_byte count moved)) tall more,
         c.fault-in-None.ensures.value,
         c.blank-in-None.ensures.maps ∙ ap (λ n. replicate n 0) (c.number.auto.cells ∙ long),
         c.blank-in-None.ensures.moves ∙ ap (λ n. replicate n 0) (c.number.auto.moves ∙ rows_long),

@@ -8,4 +8,4 @@ pub invariant_of-result : goal.invariant_of-result
 invariant_of-result c = record { simulates = tables_simulate _ _ _ _ c.requires.tables }
 
 pub returns : goal.returns
-returns c = record { place = refl; starts = starts_reached c.args.place.tables c.args.count c.args.sets.now c.args.moves.now c.requires.tables; built = built _ _ _ _ (tables_simulate _ _ _ _ c.requires.tables) }
+returns c = record { over = (refl, refl, refl, refl); starts = starts_reached c.args.place.tables c.args.count c.args.sets.now c.args.moves.now c.requires.tables; built = built _ _ _ _ (tables_simulate _ _ _ _ c.requires.tables) c.args.place.made }
