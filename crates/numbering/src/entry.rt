@@ -1,5 +1,5 @@
-// Numbers as the entries of a table of moves.
-ghost use Rattle.std.specs.Prelude.{◌≡◌, ℕ, ◌<◌};
+// Numbers as the entries of a table of moves: what they can hold is below a limit.
+ghost use Rattle.std.specs.Prelude.{◌≡◌, ℕ, ◌<◌, ◌≤◌};
 
 pub trait Entry: Copy {
     ghost number: { Self → ℕ };
@@ -15,7 +15,10 @@ impl Entry for u8 {
 
     ghost limit = { 256 };
 
-    fn nth(index: usize) -> u8 {
+    fn nth(index: usize) -> u8
+        ensures value { index < 256 → result ≡ index }
+        ensures past { 256 ≤ index → result ≡ 255 }
+    {
         u8::try_from(index).unwrap_or(u8::MAX)
     }
 }
@@ -25,7 +28,10 @@ impl Entry for u16 {
 
     ghost limit = { 65536 };
 
-    fn nth(index: usize) -> u16 {
+    fn nth(index: usize) -> u16
+        ensures value { index < 65536 → result ≡ index }
+        ensures past { 65536 ≤ index → result ≡ 65535 }
+    {
         u16::try_from(index).unwrap_or(u16::MAX)
     }
 }

@@ -9,7 +9,8 @@ use crate::entry::Entry;
 use crate::space::{Point, Space};
 
 // How many points are reached, or none where more are than there is room for; the points and their
-// moves are left in the two tables.
+// moves are left in the two tables. What the tables hold where there is none, and what is answered
+// where they do not fit one another, is open.
 pub fn number<P: Point, S: Space<P>, E: Entry>(
     space: &S,
     cells: &mut [P::Cell],

@@ -14,7 +14,7 @@ pub trait Space<P> {
     fn next(&self, point: &P, c: u8) -> P
         ensures value { result ≡ next self.now point.now c };
 
-    // Says so only of bytes that no point tells apart.
+    // Says so only of bytes that no point tells apart, and need not say so of all.
     fn alike(&self, b: u8, c: u8) -> bool
         ensures same { result ≡ true → (p : P) → next self.now p b ≡ next self.now p c };
 }
@@ -28,7 +28,7 @@ pub trait Point: Copy {
     fn get(cells: &[Self::Cell], number: usize) -> Option<Self>
         ensures value { result ≡ slice_get (kept cells.now) number };
 
-    // The number of this point among the first `count`.
+    // A number of this point among the first `count`, if there is one.
     fn find(&self, cells: &[Self::Cell], count: usize) -> Option<usize>
         ensures cases { MatchOption result (Contains (take count (kept cells.now)) self.now → ⊥) (λ n. slice_get (take count (kept cells.now)) n ≡ Some self.now) };
 

@@ -1,5 +1,5 @@
 // The tables of the set machine over a place machine.
-ghost use Rattle.std.specs.Prelude.{◌≡◌, ◌↔◌, length, replicate, MatchResult};
+ghost use Rattle.std.specs.Prelude.{◌≡◌, ℕ, ◌↔◌, true, length, replicate, slice_index, Decides, MatchResult};
 ghost use Rattle.machines.specs.Place.Runs.{stepped};
 ghost use Rattle.machines.specs.Set.Building.{MoreMasks, SetsGranted, SetsRefused};
 ghost use Rattle.machines.specs.Place.Tables.{TablesOf};
@@ -35,7 +35,11 @@ impl Space<u64> for PlaceMachine {
         self.stepped(*set, c)
     }
 
-    fn alike(&self, b: u8, c: u8) -> bool {
+    // Bytes that the same places take.
+    fn alike(&self, b: u8, c: u8) -> bool
+        ensures same { result ≡ true → (set : ℕ) → stepped self.now.tables set b ≡ stepped self.now.tables set c }
+        ensures cases { Decides result (slice_index self.now.tables.takes b ≡ slice_index self.now.tables.takes c) }
+    {
         self.takes(b) == self.takes(c)
     }
 }
