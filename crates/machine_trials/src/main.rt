@@ -6,6 +6,7 @@ use anyhow::anyhow;
 use std::io::{BufRead, BufReader};
 
 mod beside;
+mod rolls;
 mod spans;
 
 fn main(rt: HostRuntime) -> anyhow::Result<()> {
