@@ -1,14 +1,15 @@
-// One pattern and one text: the verdicts of the machines over strips that are cut in every way, filed
-// out of order, beside the other matcher's.
+// One pattern and one text: what the machines say of it, beside the other matcher. A machine whose tables
+// have no room for the pattern stands aside.
+use crate::rolls::Trial;
 use crate::spans;
+use bundle::report::Report;
 use fault::Fault;
-use folding::fold::{Folding, Judging};
-use folding::tally::Tallying;
+use folding::fold::Folding;
 use machines::set::build::{MOVES, SETS, build_sets};
-use machines::{SetMachine, build};
+use machines::{PlaceMachine, SetMachine, build};
 use pattern::Pattern;
-use roll::feeding::strip_of;
-use roll::{LentMut, Roll};
+use starts::StartMachine;
+use starts::build::{MOST_ROWS, build_starts};
 use std::fmt;
 
 // What all say of a text: that it follows the pattern, that it doesn't, or not the same; or that a
@@ -32,63 +33,38 @@ impl fmt::Display for Comparison {
     }
 }
 
-// The verdict over four strips, the cuts at i, j and k. The legs are lent, eight of them: how large an
-// array of them would be is known only where the machine is.
-fn cut<M: Judging>(
-    machine: &M,
-    legs: &mut [M::Leg],
-    text: &[u8],
-    i: usize,
-    j: usize,
-    k: usize,
-) -> Result<bool, Fault> {
-    let mut lent = LentMut {
-        machine,
-        legs,
-        tallies: &mut [Tallying.empty(); 8],
+// Whether the start machine says the same, where it has room.
+fn by_starts(set: &SetMachine, trial: &Trial, report: Report) -> Result<bool, Fault> {
+    let mut maps = [0; 64 * MOST_ROWS];
+    let mut moves = [0; 256 * MOST_ROWS];
+    let Ok(count) = build_starts(set, &mut maps, &mut moves) else {
+        return Ok(true);
     };
-    let mut roll = Roll::new::<M, M>();
-    roll.open(&mut lent, 4)?;
-    let (front, back) = text.split_at(j.min(text.len()));
-    let (first, second) = front.split_at(i.min(front.len()));
-    let (third, last) = back.split_at(k.min(back.len()));
-    for (slot, part) in [(2, third), (0, first), (3, last), (1, second)] {
-        roll.file(&mut lent, slot, strip_of(machine, part)?)?;
-    }
-    roll.verdict(&lent.shared())
+    let start = StartMachine::new(set, count, &maps, &moves);
+    Ok(trial.under(&start, &mut [start.empty(); 8])? == Some(report))
 }
 
-// Whether every way of cutting the text gives this verdict: i, j and k are the cuts.
-fn every_cut<M: Judging>(
-    machine: &M,
-    legs: &mut [M::Leg],
-    text: &[u8],
-    verdict: bool,
-) -> Result<bool, Fault> {
-    let n = text.len().min(64);
-    for j in 0..=n {
-        for i in 0..=j {
-            for k in 0..=n {
-                if cut(machine, legs, text, i, j, k)? != verdict {
-                    return Ok(false);
-                }
-            }
-        }
-    }
-    Ok(true)
+// Whether the set machine does, and the start machine over it.
+fn by_sets(place: PlaceMachine, trial: &Trial, report: Report) -> Result<bool, Fault> {
+    let mut sets = [0; SETS];
+    let mut moves = [0; MOVES];
+    let Ok(count) = build_sets(&place, &mut sets, &mut moves) else {
+        return Ok(true);
+    };
+    let set = SetMachine::new(place, count, &sets, &moves);
+    Ok(trial.under(&set, &mut [set.empty(); 8])? == Some(report) && by_starts(&set, trial, report)?)
 }
 
 fn run(bytes: &[u8], text: &[u8]) -> Result<Comparison, Fault> {
     let mut pattern = Pattern::new();
     pattern.read(bytes)?;
     let place = build(&pattern);
-    let mut sets = [0; SETS];
-    let mut moves = [0; MOVES];
-    let count = build_sets(&place, &mut sets, &mut moves)?;
-    let set = SetMachine::new(place, count, &sets, &moves);
     let verdict = spans::matches(bytes, text);
-    let alike = every_cut(&place, &mut [place.empty(); 8], text, verdict)?
-        && every_cut(&set, &mut [set.empty(); 8], text, verdict)?;
+    let trial = Trial { text, verdict };
+    let alike = match trial.under(&place, &mut [place.empty(); 8])? {
+        Some(report) => by_sets(place, &trial, report)?,
+        None => false,
+    };
     Ok(match (alike, verdict) {
         (false, _) => Comparison::Differ,
         (true, true) => Comparison::Yes,

@@ -6,15 +6,8 @@ use anyhow::anyhow;
 use std::io::{BufRead, BufReader};
 
 mod beside;
-#[cfg(test)]
-mod building;
-#[cfg(test)]
-mod legs;
+mod rolls;
 mod spans;
-#[cfg(test)]
-mod standing;
-#[cfg(test)]
-mod tables;
 
 fn main(rt: HostRuntime) -> anyhow::Result<()> {
     for line in BufReader::new(rt.alloc(), rt.stdin())?.lines(rt.alloc()) {

@@ -24,8 +24,8 @@ fn same(a: &SetMap, b: &SetMap) -> bool {
     true
 }
 
-fn by_steps<M: Folding>(machine: &M, text: &[u8]) -> M::Leg {
-    let mut at = machine.empty();
+pub(crate) fn by_steps<M: Folding>(machine: &M, from: M::Leg, text: &[u8]) -> M::Leg {
+    let mut at = from;
     for c in text {
         at = machine.step(&at, *c);
     }
@@ -51,13 +51,13 @@ fn agree(pattern: &str, text: &[u8; 300]) -> Result<bool, Fault> {
     let set = SetMachine::new(place, count, &sets, &moves);
     for length in LENGTHS {
         let text = &text[..length.min(300)];
-        let leg = by_steps(&set, text);
+        let leg = by_steps(&set, set.empty(), text);
         for cut in LENGTHS {
             if !in_two_parts(&set, &leg, text, cut) {
                 return Ok(false);
             }
         }
-        let other = by_steps(&place, text);
+        let other = by_steps(&place, place.empty(), text);
         let verdicts = set.accepts(&leg) == place.accepts(&other);
         let losses = set.lost(&leg) == place.lost(&other);
         if !verdicts || !losses || !standing::alike(&sets, &leg, &other) {

@@ -7,7 +7,7 @@ use pattern::Pattern;
 use std::test::Fail;
 
 // Where a set leads at the bytes from the first to the second.
-type Move = (usize, u8, u8, u8);
+pub(crate) type Move = (usize, u8, u8, u8);
 
 fn sets_of(sets: &[&[usize]]) -> [u64; SETS] {
     let mut table = [0; SETS];
@@ -20,7 +20,7 @@ fn sets_of(sets: &[&[usize]]) -> [u64; SETS] {
 }
 
 // A later move stands over an earlier one; past those that are given all is 0.
-fn moves_of(moves: &[Move]) -> [u8; MOVES] {
+pub(crate) fn moves_of(moves: &[Move]) -> [u8; MOVES] {
     let mut table = [0; MOVES];
     for (from, low, high, to) in moves {
         for c in *low..=*high {
