@@ -3,12 +3,15 @@
 #![tactic(auto)]
 
 ghost use Rattle.std.specs.Prelude.{◌≤◌};
-ghost use Rattle.calls.specs.Texts.{Answered};
+ghost use Rattle.calls.specs.Judgements.{Numbers};
 ghost use Rattle.calls.specs.Readings.{Reads};
+ghost use Rattle.calls.specs.Texts.{Answered};
 
+mod judging;
 mod reading;
 mod texts;
 
+use crate::judging::{Judgement, judgement_of};
 use crate::reading::{Reading, reading_of};
 use crate::texts::checked;
 
@@ -31,4 +34,13 @@ pub extern "C" fn yorvuste_read(pattern: &[u8]) -> Reading
     ensures reads { Reads pattern.now result }
 {
     reading_of(pattern)
+}
+
+// Judges a text under a pattern: the text is filed into a roll of 128 slots, in strips of 1,000,000
+// bytes. A longer text than that has room for is refused 9, with place 128.
+#[unsafe(no_mangle)]
+pub extern "C" fn yorvuste_judge(pattern: &[u8], text: &[u8]) -> Judgement
+    ensures numbers { Numbers pattern.now text.now result }
+{
+    judgement_of(pattern, text)
 }
