@@ -6,13 +6,14 @@ ghost use Rattle.bundle.specs.Lines.{answer, lines};
 ghost use Rattle.calls.specs.Texts.{Answered, Laid};
 ghost use Rattle.fault.specs.Lines.{line, word};
 
+use crate::YORVUSTE_ROOM;
 use arrayvec::ArrayString;
 use bundle::check::check;
 use bundle::report::Report;
 use fault::{Fault, Layer};
 use itoa::Buffer;
 
-type Text = ArrayString<256>;
+type Text = ArrayString<YORVUSTE_ROOM>;
 
 pub(crate) fn checked(input: &[u8], into: &mut [u8]) -> usize
     ensures answered { Answered input.now into.old result into.new }
