@@ -1,4 +1,4 @@
-mod Building
+pub mod Building
 pub mod Checking
 pub mod Cuts
 pub mod Deciding

@@ -1,0 +1,4 @@
+pub mod Filled
+pub mod Judgements
+pub mod Readings
+pub mod Texts
