@@ -1,5 +1,6 @@
 // Runs the machines and another matcher side by side: a line of input is a pattern, a tab and a text,
-// and each is answered with what all say, the machines for every way of cutting the text.
+// and each is answered with what all say, the machines for every way of cutting the text, and for a roll
+// that held other strips before.
 #![tactic(auto)]
 
 use anyhow::anyhow;

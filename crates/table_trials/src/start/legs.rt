@@ -145,7 +145,7 @@ fn all_agree(case: &Case) -> Result<bool, Fault> {
     let mut moves = [0; 256 * MOST_ROWS];
     let count = build_starts(&set, &mut maps, &mut moves)?;
     let machine = StartMachine::new(&set, count, &maps, &moves);
-    // One behind the shortest parts, some on either side of where a part ends, and none.
+    // In the first part of some texts, in later parts and past the eight of others, and nowhere.
     for mark in [1, 300, 510, 512, 1000, 4000, LONGEST] {
         if !agree(&place, &set, &machine, case, mark) {
             return Ok(false);
