@@ -6,7 +6,8 @@
  * Bytes are passed as a pointer and a size. The pointer must not be NULL, not even where the size is 0,
  * and `into` must not overlap `input`. Nothing else is asked: a call answers whatever the bytes are.
  *
- * A call wants some 80 KB of stack. */
+ * yorvuste_check and yorvuste_judge want up to 2 MB of stack, the more the deeper a pattern's parentheses
+ * nest, so give a thread that calls them 4 MB. */
 #ifndef YORVUSTE_H
 #define YORVUSTE_H
 

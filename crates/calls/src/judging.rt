@@ -24,9 +24,8 @@ use roll::feeding::strip_of;
 use roll::{LentMut, Roll};
 use starts::build_starts;
 
-// As many starts as `rollcheck` has room for, so that the same patterns are refused. The tables and the
-// cells then come to some 80 KB of the caller's stack; with 512 rows they would come to 320 KB, more than
-// many threads have.
+// As many starts as `rollcheck` has room for, so that the same patterns are refused with the same place.
+// The tables lie on the caller's stack, where 512 rows would take 240 KB more.
 const ROWS: usize = 96;
 
 const SLOTS: usize = 128;
