@@ -1,6 +1,6 @@
 // The bytes and line ends of a text, as a folding.
 ghost use Rattle.std.specs.Prelude.{◌≡◌, ◌+◌, min};
-ghost use Rattle.folding.specs.Tallies.{most, tally};
+ghost use Rattle.folding.specs.Tallies.{line_ends as line_ends_of, most, tally};
 
 use crate::fold::Folding;
 
@@ -16,6 +16,24 @@ fn capped(a: u32, b: u32) -> u32
     ensures value { result ≡ min (a + b) most }
 {
     a.saturating_add(b)
+}
+
+// A number, or the largest one.
+fn number(n: usize) -> u32
+    ensures value { result ≡ min n most }
+{
+    u32::try_from(n).unwrap_or(u32::MAX)
+}
+
+fn line_ends(text: &[u8]) -> usize
+    ensures value { result ≡ line_ends_of text.now }
+{
+    let mut count = 0;
+    // No branch on the byte, so that several are compared at once.
+    for c in text {
+        count += usize::from(*c == 10);
+    }
+    count
 }
 
 // The folding whose leg of a text is the text's tally.
@@ -36,6 +54,14 @@ impl Folding for Tallying {
         Tally {
             bytes: capped(at.bytes, 1),
             lines: capped(at.lines, end),
+        }
+    }
+
+    // In one sweep that only counts line ends, several bytes at once.
+    fn extend(&self, at: &Tally, text: &[u8]) -> Tally {
+        Tally {
+            bytes: capped(at.bytes, number(text.len())),
+            lines: capped(at.lines, number(line_ends(text))),
         }
     }
 
