@@ -1,0 +1,3 @@
+mod Building
+mod Over
+mod Reading
