@@ -1,5 +1,3 @@
-pub mod Building
-pub mod Checking
 pub mod Cuts
 pub mod Deciding
 pub mod Exchanging

@@ -48,7 +48,7 @@ pub fn check(input: &[u8]) -> Result<Report, Fault>
 fn judge(pattern: &Pattern, set: &SetMachine, strips: Strips) -> Result<Report, Fault>
     requires of { OfPattern pattern.now set.now.place.tables }
     requires starts { StartsReached set.now.place.tables set.now.count set.now.moves.now }
-    ensures started { (e : Regex) → ReadAs pattern.now e → AllByRecursion OfBytes (left strips.entry) → Started e (left strips.entry) result }
+    ensures started { (e : Regex) → ReadAs pattern.now e → AllByRecursion OfBytes (left strips.entry) → Started (left strips.entry) e result }
 {
     let mut maps = [0; 64 * ROWS];
     let mut moves = [0; 256 * ROWS];

@@ -1,11 +1,7 @@
 -- A text is filed from the first slot on, in strips that are as long as can be. Assumes nothing.
-use Rattle.std.proofs.Common.{◌≡◌, ℕ, zero, suc, ◌+◌, ◌-◌, ◌*◌, ◌<◌, ◌≤◌, Bool, true, false, ltb, List, [], ◌∷◌, ◌++◌, map, length, set, min, replicate, Some, None, Ok, Err, Option, IfOk, Result, ◌↔◌, sym, refl, ap, ◌∙◌, subst, append_assoc, append-nil, arith, length-append}
-use lib.ListN.{length-map}
-use Rattle.std.proofs.Math.Seq.{set-append_seam}
-use Rattle.std.proofs.lemmas.Bool.{ltb-false}
+use Rattle.std.proofs.Common.{◌≡◌, ℕ, suc, ◌+◌, ◌-◌, ◌*◌, ◌<◌, ◌≤◌, List, [], ◌∷◌, ◌++◌, length, set, min, replicate, Some, None, Ok, Err, IfOk, Result, ◌↔◌, sym, refl, ap, ◌∙◌, subst, append_assoc, append-nil, arith, length-append}
 use Rattle.std.proofs.lemmas.Bool.Decides.{Decides-like}
-use Rattle.std.proofs.lemmas.Grind.{flat_map-append}
-use Rattle.std.proofs.lemmas.List.{length-replicate, map-append, nil_from_length}
+use Rattle.std.proofs.lemmas.List.{nil_from_length}
 use Rattle.calls.specs.Filled.{Filled}
 use Rattle.calls.specs.Judgements.{Told, room}
 use Rattle.calls.specs.declared.judging.Answers.{Answers}
@@ -13,40 +9,12 @@ use Rattle.fault.specs.declared.Fault.{Fault}
 use Rattle.fault.specs.declared.Refusal.TheVariants.{NoSuchSlot}
 use Rattle.folding.specs.Texts.{Bytes, together}
 use Rattle.folding.specs.declared.tally.Tally.{Tally}
-use Rattle.roll.specs.Plain.{Plain, whole}
-use Rattle.roll.specs.Refusals.{fault, unless, first}
-use Rattle.roll.specs.Stands.{State, slots, Stands}
+use Rattle.roll.specs.Refusals.{fault}
+use Rattle.roll.specs.Stands.{State, Stands}
 use Rattle.roll.specs.Steps.{FedAtOnce, Files}
 use Rattle.roll.specs.declared.strip.Returned.{Returned}
 use Rattle.roll.specs.declared.strip.Strip.{Strip}
-use Rattle.roll.proofs.Granting.{refused_not_none, room_none}
-use Rattle.roll.proofs.Standing.{stands_size, stands_tables}
-
--- the strips ts, and n empty slots after them
-abbrev pub held : List (List ℕ) → ℕ → Plain
-held ts n = map Some ts ++ replicate n None
-
-held_more : (ts : List (List ℕ)) (n : ℕ) (w : List ℕ) → set (held ts (suc n)) (length ts) (Some w) ≡ held (ts ++ w ∷ []) n
-held_more ts n w =
-    ap (λ k. set (held ts (suc n)) k (Some w)) (sym (length-map ts Some))
-    ∙ set-append_seam (map Some ts) None (replicate n None) (Some w)
-    ∙ sym (append_assoc (map Some ts) (Some w ∷ []) (replicate n None))
-    ∙ ap (λ l. l ++ replicate n None) (sym (map-append Some ts (w ∷ [])))
-
-together_more : (ts : List (List ℕ)) (w : List ℕ) → together (ts ++ w ∷ []) ≡ together ts ++ w
-together_more ts w = flat_map-append (λ x. x) ts (w ∷ []) ∙ ap (λ l. together ts ++ l) (append-nil w)
-
-whole_held : (ts : List (List ℕ)) (n : ℕ) → whole (held ts n) ≡ together ts
-whole_held [] zero = refl
-whole_held [] (suc n) = whole_held [] n
-whole_held (w ∷ ts) n = ap (λ l. w ++ l) (whole_held ts n)
-
-length_held : (ts : List (List ℕ)) (n : ℕ) → length (held ts n) ≡ length ts + n
-length_held ts n = length-append (map Some ts) (replicate {A = Option (List ℕ)} n None) ∙ ap (λ k. k + length (replicate {A = Option (List ℕ)} n None)) (length-map ts Some) ∙ ap (λ k. length ts + k) (length-replicate {A = Option (List ℕ)} n None)
-
-stops : (b : Bool) (f g : Fault) → unless b f ≡ Some g → (b ≡ false) × (g ≡ f)
-stops true f g e = absurd (refused_not_none None g e refl)
-stops false f g e = (refl, cc)
+use Rattle.roll.proofs.Filling.{filed_in, no_slot, held, held_more, together_more, whole_held, length_held}
 
 -- the first `slot` slots hold the head of the text, and `rest` is to come
 pub record Along {L : Type 0} (leg : List ℕ → L) (s : State L) (text rest : List ℕ) (slot : ℕ) : Type 0 where
@@ -72,15 +40,16 @@ module _ {L : Type 0} (leg : List ℕ → L) where
       (omega arith, record { plain = held along.strips along.left; stands = along.stands; slots = length_held along.strips along.left ∙ ap (λ k. k + along.left) along.are ∙ along.slots; holds = whole_held along.strips along.left ∙ all })
 
   module _ (M : List ℕ → Type 0) (was is : State L) (text rest : List ℕ) (slot : ℕ) (along : Along leg was text rest slot) where
-    count : length (slots was.roll) ≡ 128
-    count = stands_size along.stands ∙ length_held along.strips along.left ∙ ap (λ k. k + along.left) along.are ∙ along.slots
+    count : length (held along.strips along.left) ≡ 128
+    count = length_held along.strips along.left ∙ ap (λ k. k + along.left) along.are ∙ along.slots
 
     pub along_more : (w later : List ℕ) {strip : Strip L} (t : Tally) → rest ≡ w ++ later → length w ≡ min (length rest) 1000000 → FedAtOnce leg w strip → Files leg M was slot strip (Ok t) is → Along leg is text later (slot + 1)
     along_more w later t parts long fed filed =
         let n = along.left - 1 in
         let are = along.are in
         let empty = along.slots in
-        let free : slot < 128 = subst (λ k. slot < k) count (room_none (length (slots was.roll)) slot (length was.legs) (length was.tallies) filed.always.roll.which) in
+        let in' = filed_in leg M was is _ along.stands slot w t fed filed in
+        let free : slot < 128 = subst (λ k. slot < k) count in'.0 in
         let left : along.left ≡ suc n = omega arith in
         let filled = ap (λ k. set (held along.strips k) slot (Some w)) left ∙ ap (λ k. set (held along.strips (suc n)) k (Some w)) (sym are) ∙ held_more along.strips n w in
         let joined = together_more along.strips w in
@@ -93,7 +62,7 @@ module _ {L : Type 0} (leg : List ℕ → L) where
           left = n;
           are = length-append along.strips (w ∷ []) ∙ ap (λ k. k + 1) are;
           slots = omega arith;
-          stands = subst (Stands leg is) filled (filed.keeps w (fed.2.holds [] fed.1) (held along.strips along.left) along.stands filed.always.roll.which).1;
+          stands = subst (Stands leg is) filled in'.1;
           joined = ap (λ l. l ++ later) joined ∙ append_assoc (together along.strips) w later ∙ ap (λ l. together along.strips ++ l) (sym parts) ∙ along.joined;
           most = omega arith;
           full = λ some. let before = full (omega arith) in omega arith;
@@ -101,16 +70,14 @@ module _ {L : Type 0} (leg : List ℕ → L) where
 
     pub along_stop : {strip : Strip L} (e : Returned L) → 0 < length rest → Files leg M was slot strip (Err e) is → (room < length text) × (e.fault ≡ fault NoSuchSlot 128)
     along_stop e some filed =
-        let all = length (slots was.roll) in
-        let stopped = ap (λ o. first o (unless (ltb slot all) (fault NoSuchSlot slot))) (sym (stands_tables along.stands)) ∙ filed.always.roll.which in
-        let why = stops (ltb slot all) (fault NoSuchSlot slot) e.fault stopped in
-        let over : 128 ≤ slot = subst (λ k. k ≤ slot) count (ltb-false slot all why.0) in
+        let stop = no_slot leg M was is _ along.stands slot e filed in
+        let over : 128 ≤ slot = subst (λ k. k ≤ slot) count stop.0 in
         let empty = along.slots in
         let is : slot ≡ 128 = omega arith in
         let full = along.full some in
         let long = ap length along.joined in
         let parts = length-append (together along.strips) rest in
-        (omega arith, why.1 ∙ ap (fault NoSuchSlot) is)
+        (omega arith, stop.1 ∙ ap (fault NoSuchSlot) is)
 
 -- under two sets that are alike on texts of bytes
 pub told_same : (M N : List ℕ → Type 0) → ((w : List ℕ) → Bytes w → M w ↔ N w) → (w : List ℕ) (r : Result Answers Fault) → IfOk r (λ a. Bytes w) → Told M w r → Told N w r

@@ -2,24 +2,21 @@
 --
 --   room           how many bytes a roll of 128 slots has room for
 --   Told M w r     r is what the text w comes to, where M is the set: the answers, or the fault of a strip for which there is no slot
---   Started e w r  the same under a pattern that is read as e, once its sets are built: the fault of its starts comes first
---   Judged e w r   the same from the pattern on: the fault of its sets comes first
---   Judges p w r   the same under the pattern p, whose own fault comes first
+--   Started w e r  the same under a pattern that is read as e, once its sets are built: the fault of its starts comes first
+--   Judges p w r   the same under the pattern p, whose own fault comes first, and then that of its sets
 --   numbers r      an outcome in numbers
 --   Numbers p w j  j is the outcome of p and w in numbers
-use Rattle.std.specs.Prelude.{◌≡◌, ℕ, ◌*◌, ◌<◌, ◌≤◌, ◌⊎◌, List, length, false, Decides, Ok, Err, Result, MatchResult}
+use Rattle.std.specs.Prelude.{◌≡◌, ℕ, ◌*◌, ◌<◌, ◌≤◌, List, length, false, Decides, Ok, Err, Result, MatchResult}
 use Rattle.bundle.specs.Checks.{rows}
-use Rattle.starts.specs.Building.{unbuilt}
 use Rattle.calls.specs.declared.judging.Answers.{Answers}
 use Rattle.calls.specs.declared.judging.Judgement.{Judgement}
 use Rattle.fault.specs.Numbers.{number}
 use Rattle.fault.specs.declared.Fault.{Fault}
-use Rattle.fault.specs.declared.Refusal.TheVariants.{NoSuchSlot, TooManySets, TooManyStarts}
+use Rattle.fault.specs.declared.Refusal.TheVariants.{NoSuchSlot}
 use Rattle.folding.specs.Tallies.{tally}
-use Rattle.machines.specs.Reached.{MoreSets, MoreStarts}
+use Rattle.law.specs.Built.{Under, Sets, Starts}
 use Rattle.notation.specs.Expressions.{Regex}
 use Rattle.notation.specs.Meaning.{Matches}
-use Rattle.notation.specs.Reading.{ReadAs, Refused}
 use Rattle.roll.specs.Refusals.{fault}
 use Rattle.roll.specs.Sizes.{longest}
 
@@ -29,14 +26,11 @@ room = 128 * longest
 abbrev pub Told : (List ℕ → Type 0) → List ℕ → Result Answers Fault → Type 0
 Told M w r = MatchResult r (λ a. (length w ≤ room) × Decides a.verdict (M w) × (a.totals ≡ tally w)) (λ f. (room < length w) × (f ≡ fault NoSuchSlot 128))
 
-abbrev pub Started : Regex → List ℕ → Result Answers Fault → Type 0
-Started e w r = (MoreStarts rows e × (r ≡ Err (unbuilt TooManyStarts rows))) ⊎ ((MoreStarts rows e → ⊥) × Told (Matches e) w r)
-
-abbrev pub Judged : Regex → List ℕ → Result Answers Fault → Type 0
-Judged e w r = (MoreSets 64 e × (r ≡ Err (unbuilt TooManySets 0))) ⊎ ((MoreSets 64 e → ⊥) × Started e w r)
+abbrev pub Started : List ℕ → Regex → Result Answers Fault → Type 0
+Started w = Starts rows (λ e. Told (Matches e) w)
 
 abbrev pub Judges : List ℕ → List ℕ → Result Answers Fault → Type 0
-Judges p w r = ((f : Fault) × Refused p f × (r ≡ Err f)) ⊎ ((e : Regex) × ReadAs p e × Judged e w r)
+Judges p w r = Under p (Sets (Started w)) r
 
 abbrev pub numbers : Result Answers Fault → Judgement
 numbers (Ok a) = record { refusal = 0; verdict = a.verdict; bytes = a.totals.bytes; lines = a.totals.lines; place = 0 }

@@ -97,7 +97,7 @@ fn judge(pattern: &[u8], text: &[u8]) -> Result<Answers, Fault>
 fn from_starts(pattern: &Pattern, set: &SetMachine, text: &[u8]) -> Result<Answers, Fault>
     requires of { OfPattern pattern.now set.now.place.tables }
     requires starts { StartsReached set.now.place.tables set.now.count set.now.moves.now }
-    ensures started { (e : Regex) → ReadAs pattern.now e → Started e text.now result }
+    ensures started { (e : Regex) → ReadAs pattern.now e → Started text.now e result }
 {
     let mut maps = [0; 64 * ROWS];
     let mut moves = [0; 256 * ROWS];

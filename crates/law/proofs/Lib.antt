@@ -1,2 +1,3 @@
+pub mod Built
 mod Meaning
 mod Wholly

@@ -1,1 +1,2 @@
+pub mod Built
 pub mod Whole

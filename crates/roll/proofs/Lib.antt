@@ -1,4 +1,5 @@
 pub mod Exchanging
+pub mod Filling
 pub mod Following
 pub mod Granting
 pub mod Lawful

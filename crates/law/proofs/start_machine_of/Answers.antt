@@ -1,4 +1,3 @@
-use Rattle.std.specs.Prelude.{ℕ, List}
 use Rattle.machines.specs.Place.Shown.Machine.{made_inhabited}
 use Rattle.roll.proofs.Lawful.{lawful}
 use Rattle.law.proofs.Meaning.{meant}

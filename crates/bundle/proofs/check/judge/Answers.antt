@@ -1,32 +1,24 @@
-use Rattle.std.proofs.Common.{◌≡◌, ℕ, ◌/◌, ◌∙◌, Err, ap, inl, inr, length, subst, sym}
+use Rattle.std.proofs.Common.{ℕ, ◌∙◌, arith}
 use Rattle.std.proofs.lemmas.List.{length-replicate}
 use Rattle.std.proofs.lemmas.Result.{err_from_is_err_and}
-use Rattle.machines.specs.Set.Runs.{moved_by}
+use Rattle.law.proofs.Built.{no_starts, with_starts}
 use Rattle.notation.specs.Meaning.{Matches}
-use Rattle.starts.specs.Building.{MoreMaps}
 use Rattle.bundle.specs.Handed.{left}
-use Rattle.bundle.proofs.Building.{starts_refused}
+use Rattle.bundle.specs.Outcome.{filed, opened, Reported}
 use Rattle.bundle.proofs.Exchanging.{reported_same}
 use Rattle.bundle.proofs.check.judge.Goals as goal
 
 pub returns-in_err-count : goal.returns-in_err-count
 returns-in_err-count c =
     let p = err_from_is_err_and c.from_residual.result c.from_residual.ensures.1 in
-    record {
-      started = λ e read of.
-          let is = c.requires.of.1 e read.written in
-          let refused = starts_refused c.args.set.now.count (moved_by c.args.set.now.moves.now) _ _ _ _ _ (length-replicate {A = ℕ} 6144 0) (length-replicate {A = ℕ} 24576 0) c.in_err-count.ensures.outcome in
-          inl ((c.requires.starts e is.0 is.1 96).0 refused.0, p.1 ∙ ap Err (p.2 ∙ refused.1));
-    }
+    let strips = left c.args.strips in
+    record { started = λ e read of. no_starts (λ e. Reported (Matches e) (filed opened strips)) c.requires.of read _ _ c.requires.starts {n = 96} (omega arith) (omega arith) (length-replicate {A = ℕ} 6144 0) (length-replicate {A = ℕ} 24576 0) c.in_err-count.ensures.outcome p.1 p.2 }
 
 pub returns : goal.returns
 returns c =
-    let rows : length c.build_starts.new.maps / 64 ≡ 96 = ap (λ n. n / 64) (c.build_starts.auto.maps ∙ length-replicate {A = ℕ} 6144 0) in
+    let strips = left c.args.strips in
     record {
       started = λ e read of.
-          let is = c.requires.of.1 e read.written in
-          inr (
-            (λ more. c.in_ok-count.ensures.outcome.0 (subst (MoreMaps c.args.set.now.count (moved_by c.args.set.now.moves.now)) (sym rows) ((c.requires.starts e is.0 is.1 96).1 more))),
-            reported_same _ (Matches e) (c.start_machine_of-machine.ensures.means e read) (left c.args.strips) _ of c.report.ensures.reported,
-          );
+          with_starts (λ e. Reported (Matches e) (filed opened strips)) c.requires.of read _ _ c.requires.starts _ (c.build_starts.auto.maps ∙ length-replicate {A = ℕ} 6144 0) c.in_ok-count.ensures.outcome.0
+          (reported_same _ (Matches e) (c.start_machine_of-machine.ensures.means e read) strips _ of c.report.ensures.reported);
     }
