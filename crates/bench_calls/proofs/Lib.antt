@@ -1,3 +1,2 @@
-mod Building
 mod Over
-mod Reading
+mod Rolls

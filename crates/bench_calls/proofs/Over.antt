@@ -1,4 +1,4 @@
--- A text once more in a row, and what a text in a row is made of. Assumes nothing.
+-- A text many times in a row. Assumes nothing.
 use Rattle.std.proofs.Common.{◌≡◌, ℕ, zero, suc, ◌+◌, List, ◌++◌, ap, arith}
 use Rattle.folding.specs.Texts.{Bytes}
 use Rattle.folding.proofs.Texts.{bytes_append}

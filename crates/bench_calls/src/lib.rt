@@ -1,16 +1,20 @@
 // What the measuring program in bench/ calls besides the library's calls from C: each kind of machine by
-// itself, and a roll that is corrected. Texts count any number of times over, so that the time of a
-// machine is told apart from the time of its building.
+// itself, on a text that counts any number of times over, and a roll that is corrected.
 #![tactic(auto)]
 
 ghost use Rattle.std.specs.Prelude.{◌≡◌};
-ghost use Rattle.bench_calls.specs.Answers.{Outcome, Placed, Numbered, Started, code as code_of, over};
+ghost use Rattle.bench_calls.specs.Answers.{Says, Verdict, Corrected, code as code_of, over};
+ghost use Rattle.law.specs.Built.{Under, Sets, Starts};
+ghost use Rattle.notation.specs.Meaning.{Matches};
 
-mod corrections;
-mod judging;
+mod building;
+mod correction;
+mod question;
+mod repetition;
 
-use crate::corrections::corrected;
-use crate::judging::{numbered, placed, started};
+use crate::building::{under_place, under_set, under_start};
+use crate::correction::Correction;
+use crate::repetition::Repetition;
 use fault::Fault;
 
 fn code(outcome: Result<bool, Fault>) -> u32
@@ -25,49 +29,61 @@ fn code(outcome: Result<bool, Fault>) -> u32
 // Under the place machine.
 #[unsafe(no_mangle)]
 pub extern "C" fn bench_place(pattern: &[u8], text: &[u8], times: u32) -> u32
-    ensures answer { (r : Outcome) × Placed pattern.now (over times text.now) r × (result ≡ code_of r) }
+    ensures says { Says (Under pattern.now (λ e. Verdict (Matches e) (over times text.now))) result }
 {
-    code(placed(pattern, text, times))
+    code(under_place(pattern, text, times))
 }
 
 // Under the set machine.
 #[unsafe(no_mangle)]
 pub extern "C" fn bench_set(pattern: &[u8], text: &[u8], times: u32) -> u32
-    ensures answer { (r : Outcome) × Numbered pattern.now (over times text.now) r × (result ≡ code_of r) }
+    ensures says { Says (Under pattern.now (Sets (λ e. Verdict (Matches e) (over times text.now)))) result }
 {
-    code(numbered(pattern, text, times))
+    code(under_set(pattern, text, times))
 }
 
-// Under the start machine, with 512 rows.
+// Under the start machine, with 512 rows: as many as the number of a start can name.
 #[unsafe(no_mangle)]
 pub extern "C" fn bench_start(pattern: &[u8], text: &[u8], times: u32) -> u32
-    ensures answer { (r : Outcome) × Started 512 pattern.now (over times text.now) r × (result ≡ code_of r) }
+    ensures says { Says (Under pattern.now (Sets (Starts 512 (λ e. Verdict (Matches e) (over times text.now))))) result }
 {
     let mut maps = [0; 64 * 512];
     let mut moves = [0; 256 * 512];
-    code(started(pattern, 512, &mut maps, &mut moves, text, times))
+    let repetition = Repetition { text, times };
+    code(under_start(pattern, 512, &mut maps, &mut moves, &repetition))
 }
 
 // Under the start machine, with 96 rows.
 #[unsafe(no_mangle)]
 pub extern "C" fn bench_small_start(pattern: &[u8], text: &[u8], times: u32) -> u32
-    ensures answer { (r : Outcome) × Started 96 pattern.now (over times text.now) r × (result ≡ code_of r) }
+    ensures says { Says (Under pattern.now (Sets (Starts 96 (λ e. Verdict (Matches e) (over times text.now))))) result }
 {
     let mut maps = [0; 64 * 96];
     let mut moves = [0; 256 * 96];
-    code(started(pattern, 96, &mut maps, &mut moves, text, times))
+    let repetition = Repetition { text, times };
+    code(under_start(pattern, 96, &mut maps, &mut moves, &repetition))
 }
 
-// A roll of 128 slots, into which the text is filed in strips of 8,000 bytes; then a strip (its first
-// 8,000 bytes) is fed anew, filed, and the verdict asked, any number of times. What it answers is not
-// promised: the measuring program compares it with a rescan.
+// Under the start machine, with 512 rows: a roll of 128 slots into which the text is filed in strips of
+// 8,000 bytes, as far as they reach; then the head of another strip, as long as these, is fed anew, filed
+// into one of the slots, and the verdict asked: once, and so many times more.
 #[unsafe(no_mangle)]
 pub extern "C" fn bench_correct(
     pattern: &[u8],
     text: &[u8],
     slot: usize,
     strip: &[u8],
-    times: u32,
-) -> u32 {
-    code(corrected(pattern, text, slot, strip, times))
+    more: u32,
+) -> u32
+    ensures says { Says (Under pattern.now (Sets (Starts 512 (λ e. Corrected (Matches e) text.now slot strip.now)))) result }
+{
+    let mut maps = [0; 64 * 512];
+    let mut moves = [0; 256 * 512];
+    let correction = Correction {
+        text,
+        slot,
+        strip,
+        more,
+    };
+    code(under_start(pattern, 512, &mut maps, &mut moves, &correction))
 }

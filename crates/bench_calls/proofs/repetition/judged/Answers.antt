@@ -3,7 +3,7 @@ use Rattle.folding.specs.Texts.{Bytes}
 use Rattle.folding.proofs.Texts.{bytes_slice, bytes_append}
 use Rattle.bench_calls.specs.Answers.{over}
 use Rattle.bench_calls.proofs.Over.{over_more}
-use Rattle.bench_calls.proofs.judging.judged.Goals as goal
+use Rattle.bench_calls.proofs.repetition.judged.Goals as goal
 
 pub loop-init : goal.loop-init
 unfolding over

@@ -1,32 +1,23 @@
-// A text under a machine of each kind.
-ghost use Rattle.std.specs.Prelude.{◌≡◌, ◌*◌, ◌≤◌, Decides, length};
-ghost use Rattle.bench_calls.specs.Answers.{Placed, Numbered, Started, Starts, Verdict, over};
+// The machines of a pattern, and what is asked of one of them.
+ghost use Rattle.std.specs.Prelude.{◌≡◌, ◌*◌, ◌≤◌, length};
+ghost use Rattle.bench_calls.specs.Answers.{Verdict, over};
+ghost use Rattle.law.specs.Built.{Under, Sets, Starts};
 ghost use Rattle.law.specs.Whole.{OfPattern};
 ghost use Rattle.machines.specs.Set.Starting.{StartsReached};
 ghost use Rattle.notation.specs.Expressions.{Regex};
 ghost use Rattle.notation.specs.Meaning.{Matches};
 ghost use Rattle.notation.specs.Reading.{ReadAs};
 
+use crate::question::Question;
+use crate::repetition::judged;
 use fault::Fault;
-use folding::fold::Judging;
 use law::{machine_of, set_machine_of, start_machine_of};
 use machines::{PlaceMachine, SetMachine, build_sets};
 use pattern::Pattern;
 use starts::build_starts;
 
-// Whether the text, so many times in a row, is meant.
-fn judged<M: Judging>(machine: &M, text: &[u8], times: u32) -> bool
-    ensures verdict { Decides result (M.means machine.now (over times text.now)) }
-{
-    let mut leg = machine.empty();
-    for _ in 0..times {
-        leg = machine.extend(&leg, text);
-    }
-    machine.accepts(&leg)
-}
-
-pub(crate) fn placed(bytes: &[u8], text: &[u8], times: u32) -> Result<bool, Fault>
-    ensures outcome { Placed bytes.now (over times text.now) result }
+pub(crate) fn under_place(bytes: &[u8], text: &[u8], times: u32) -> Result<bool, Fault>
+    ensures outcome { Under bytes.now (λ e. Verdict (Matches e) (over times text.now)) result }
 {
     let mut pattern = Pattern::new();
     pattern.read(bytes)?;
@@ -34,8 +25,8 @@ pub(crate) fn placed(bytes: &[u8], text: &[u8], times: u32) -> Result<bool, Faul
     Ok(judged(&place, text, times))
 }
 
-pub(crate) fn numbered(bytes: &[u8], text: &[u8], times: u32) -> Result<bool, Fault>
-    ensures outcome { Numbered bytes.now (over times text.now) result }
+pub(crate) fn under_set(bytes: &[u8], text: &[u8], times: u32) -> Result<bool, Fault>
+    ensures outcome { Under bytes.now (Sets (λ e. Verdict (Matches e) (over times text.now))) result }
 {
     let mut pattern = Pattern::new();
     pattern.read(bytes)?;
@@ -43,23 +34,23 @@ pub(crate) fn numbered(bytes: &[u8], text: &[u8], times: u32) -> Result<bool, Fa
     let mut sets = [0; 64];
     let mut moves = [0; 16384];
     let count = build_sets(&place, &mut sets, &mut moves)?;
-    let machine = set_machine_of::<PlaceMachine>(&pattern, place, count, &sets, &moves);
-    Ok(judged(&machine, text, times))
+    let set = set_machine_of::<PlaceMachine>(&pattern, place, count, &sets, &moves);
+    Ok(judged(&set, text, times))
 }
 
-pub(crate) fn started(
+// With so many rows as the tables have.
+pub(crate) fn under_start<Q: Question>(
     bytes: &[u8],
     rows: usize,
     maps: &mut [u8],
     moves: &mut [u16],
-    text: &[u8],
-    times: u32,
+    question: &Q,
 ) -> Result<bool, Fault>
     requires some { 1 ≤ rows }
     requires most { rows ≤ 512 }
     requires maps { length maps.old ≡ 64 * rows }
     requires moves { length moves.old ≡ 256 * rows }
-    ensures outcome { Started rows bytes.now (over times text.now) result }
+    ensures outcome { Under bytes.now (Sets (Starts rows (Q.comes question.now))) result }
 {
     let mut pattern = Pattern::new();
     pattern.read(bytes)?;
@@ -68,18 +59,17 @@ pub(crate) fn started(
     let mut moves_of_sets = [0; 16384];
     let count = build_sets(&place, &mut sets, &mut moves_of_sets)?;
     let set = set_machine_of::<PlaceMachine>(&pattern, place, count, &sets, &moves_of_sets);
-    with_starts(&pattern, &set, rows, maps, moves, text, times)
+    from_starts(&pattern, &set, rows, maps, moves, question)
 }
 
 // From the set machine of the pattern on.
-fn with_starts(
+fn from_starts<Q: Question>(
     pattern: &Pattern,
     set: &SetMachine,
     rows: usize,
     maps: &mut [u8],
     moves: &mut [u16],
-    text: &[u8],
-    times: u32,
+    question: &Q,
 ) -> Result<bool, Fault>
     requires some { 1 ≤ rows }
     requires most { rows ≤ 512 }
@@ -87,9 +77,9 @@ fn with_starts(
     requires moves { length moves.old ≡ 256 * rows }
     requires of { OfPattern pattern.now set.now.place.tables }
     requires starts { StartsReached set.now.place.tables set.now.count set.now.moves.now }
-    ensures outcome { (e : Regex) → ReadAs pattern.now e → Starts rows (λ e. Verdict (Matches e) (over times text.now)) e result }
+    ensures outcome { (e : Regex) → ReadAs pattern.now e → Starts rows (Q.comes question.now) e result }
 {
     let count = build_starts(set, maps, moves)?;
     let machine = start_machine_of::<SetMachine, PlaceMachine>(pattern, set, count, maps, moves);
-    Ok(judged(&machine, text, times))
+    question.put(&machine)
 }
