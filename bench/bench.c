@@ -1,6 +1,7 @@
 // Measures the library's calls beside a plain loop over a table of moves, and beside RE2. Prints ratios.
 #define _GNU_SOURCE
 #include "bench.h"
+#include "yorvuste.h"
 #include <inttypes.h>
 #include <stdbool.h>
 #include <stdio.h>
@@ -193,13 +194,11 @@ static uint32_t by_start(const Made *m, const uint8_t *text, size_t n, uint32_t 
   return bench_start(PATTERN, text, n, times);
 }
 
-#ifdef WITH_JUDGE
 static uint32_t by_roll(const Made *m, const uint8_t *text, size_t n, uint32_t times) {
   (void)times;
   struct yorvuste_judgement j = yorvuste_judge(PATTERN, text, n);
   return j.refusal ? 2 : j.verdict;
 }
-#endif
 
 enum { PLAIN, AHEAD, RE2, PLACE, SET, START, ROLL, ENGINES };
 
@@ -214,15 +213,11 @@ static const struct {
     {"place machine", by_place, true},
     {"set machine", by_set, true},
     {"start machine", by_start, true},
-#ifdef WITH_JUDGE
     {"whole way, in a roll", by_roll, false},
-#else
-    {"whole way, in a roll", NULL, false},
-#endif
 };
 
 static bool has(int e, const Case *c) {
-  return engines[e].judge && (e != RE2 || re2_here()) && (e != ROLL || c->few);
+  return (e != RE2 || re2_here()) && (e != ROLL || c->few);
 }
 
 static void must(bool holds, const char *what) {
@@ -266,11 +261,10 @@ static void best(double *fastest, double took) {
 static void match(const Made *m, const uint8_t *text, size_t n, int rounds, uint32_t more) {
   double once[ENGINES], again[ENGINES];
   for (int e = 0; e < ENGINES; e++) once[e] = again[e] = 1e18;
-  // The place machine takes minutes for the longest text, so it is measured on the shorter.
+  // The place machine takes two seconds for the longest text, so it has two turns.
   for (int r = 0; r < rounds; r++)
     for (int e = 0; e < ENGINES; e++) {
-      if (!has(e, m->of) || (e == PLACE && n > SOME)) continue;
-      if (e == PLACE && r > 1) continue;
+      if (!has(e, m->of) || (e == PLACE && r > 1)) continue;
       double from = now();
       must(engines[e].judge(m, text, n, 1) == 1, "a text that follows its pattern is answered no");
       double to = now();
@@ -283,11 +277,7 @@ static void match(const Made *m, const uint8_t *text, size_t n, int rounds, uint
   printf("%s, %zu bytes (plain loop: %.2f GB/s)\n", m->of->name, n, (double)n / once[PLAIN]);
   for (int e = 0; e < ENGINES; e++) {
     if (!has(e, m->of)) {
-      printf("  %-24s %s\n", engines[e].name, e == RE2 ? "not installed" : engines[e].judge ? "refused: more than 96 starts" : "not built");
-      continue;
-    }
-    if (once[e] > 1e17) {
-      printf("  %-24s not measured\n", engines[e].name);
+      printf("  %-24s %s\n", engines[e].name, e == RE2 ? "not installed" : "refused: more than 96 starts");
       continue;
     }
     double alone = again[e] > 1e17 ? once[e] : (again[e] - once[e]) / more;
@@ -316,10 +306,10 @@ static void correction(const Made *m, int rounds) {
     uint32_t right = by_plain(m, changed, sizeof changed, 1);
     best(&scan, now() - from);
     from = now();
-    uint32_t first = bench_correct(PATTERN, text, sizeof text, slot, strip, STRIP, 1);
+    uint32_t first = bench_correct(PATTERN, text, sizeof text, slot, strip, STRIP, 0);
     best(&once, now() - from);
     from = now();
-    uint32_t last = bench_correct(PATTERN, text, sizeof text, slot, strip, STRIP, 1 + CORRECTIONS);
+    uint32_t last = bench_correct(PATTERN, text, sizeof text, slot, strip, STRIP, CORRECTIONS);
     best(&again, now() - from);
     must(first == right && last == right, "a corrected roll answers otherwise than a rescan");
   }
@@ -350,12 +340,14 @@ static void build(const char *name, const uint8_t *pattern, size_t length, int r
   fflush(stdout);
 }
 
-// A file of lines, each a name, a blank, and a pattern in hexadecimal.
-static void builds(const char *path, int rounds) {
+// A file of lines, each a name, a blank, and a pattern in hexadecimal. `rollcheck` is timed under the second.
+static void builds(const char *path, const char *program, int rounds) {
   FILE *file = fopen(path, "r");
   must(file, "no file of patterns");
   char name[64], hex[1024];
-  while (fscanf(file, "%63s %1023s", name, hex) == 2) {
+  static uint8_t slow[512];
+  size_t length = 0;
+  for (int i = 0; fscanf(file, "%63s %1023s", name, hex) == 2; i++) {
     uint8_t pattern[512];
     size_t n = 0;
     for (char *at = hex; at[0] && at[1]; at += 2) {
@@ -364,12 +356,15 @@ static void builds(const char *path, int rounds) {
       pattern[n++] = (uint8_t)byte;
     }
     build(name, pattern, n, rounds);
+    if (i == 1) memcpy(slow, pattern, length = n);
   }
   fclose(file);
+  printf("\n`rollcheck` on bundles of 32,768 bytes, from its start to its end:\n");
+  time_program(program, slow, length, rounds);
 }
 
 int main(int argc, char **argv) {
-  must(argc == 3, "wanted: the file of patterns, and how many rounds");
+  must(argc == 4, "wanted: the file of patterns, how many rounds, and the program");
   int rounds = atoi(argv[2]);
   uint8_t *text = malloc(MOST);
   must(text, "no memory");
@@ -393,6 +388,6 @@ int main(int argc, char **argv) {
   printf("\nA roll of %d strips of %d bytes, one fed anew, filed, and the verdict asked:\n", SLOTS, STRIP);
   for (int i = 0; i < CASES; i++) correction(&made[i], rounds);
   printf("\nReading the pattern and building its machines:\n");
-  builds(argv[1], rounds);
+  builds(argv[1], argv[3], rounds);
   return 0;
 }

@@ -15,11 +15,10 @@ uint32_t bench_set(const uint8_t *pattern, size_t length, const uint8_t *text, s
 uint32_t bench_start(const uint8_t *pattern, size_t length, const uint8_t *text, size_t bytes, uint32_t times);
 uint32_t bench_small_start(const uint8_t *pattern, size_t length, const uint8_t *text, size_t bytes, uint32_t times);
 uint32_t bench_correct(const uint8_t *pattern, size_t length, const uint8_t *text, size_t bytes, size_t slot, const uint8_t *strip,
-                       size_t strip_bytes, uint32_t times);
+                       size_t strip_bytes, uint32_t more);
 
-#ifdef WITH_JUDGE
-#include "yorvuste.h"
-#endif
+// The time of `rollcheck`, the program, also under a pattern whose machines take long to build.
+void time_program(const char *program, const uint8_t *slow, size_t length, int rounds);
 
 bool re2_here(void);
 void *re2_made(const char *pattern);
