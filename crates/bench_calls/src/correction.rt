@@ -1,5 +1,5 @@
 // A roll that is filled and then corrected.
-ghost use Rattle.std.specs.Prelude.{◌≡◌, ℕ, List, length, map, take, Some, IfOk, MatchResult, slice_set};
+ghost use Rattle.std.specs.Prelude.{◌≡◌, length, map, take, Some, IfOk, MatchResult, slice_set};
 ghost use Rattle.bench_calls.specs.Answers.{Corrected, cut};
 ghost use Rattle.bench_calls.specs.Rolls.{Corrects, Puts};
 ghost use Rattle.bundle.specs.Outcome.{opened};

@@ -10,7 +10,7 @@ ghost use Rattle.bundle.specs.Handed.{left};
 ghost use Rattle.bundle.specs.Layout.{OfBytes};
 
 use crate::decode::Bundle;
-use crate::filing::report;
+use crate::filing::{SLOTS, report};
 use crate::report::Report;
 use crate::walk::Strips;
 use fault::Fault;
@@ -26,7 +26,7 @@ use std::alloc::{AllocError, Global};
 // How many starts there is room for.
 const ROWS: usize = 96;
 
-const CELLS: usize = 256;
+const CELLS: usize = 2 * SLOTS;
 
 // Reads the pattern, builds its machines and files the strips into a roll of 128 slots; the first
 // refusal ends it.

@@ -9,7 +9,7 @@ use fault::Fault;
 use folding::fold::Judging;
 use roll::{LentMut, Roll, feeding};
 
-const SLOTS: usize = 128;
+pub(crate) const SLOTS: usize = 128;
 
 // The roll and what is lent with its calls stay two values: a roll outlives what is lent.
 fn file_one<M: Judging>(roll: &mut Roll, lent: &mut LentMut<M>, strip: Strip) -> Result<(), Fault>

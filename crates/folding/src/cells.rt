@@ -4,7 +4,7 @@
 ghost use Rattle.std.specs.Prelude.{◌≡◌, ℕ, ◌+◌, ◌*◌, ◌/◌, ◌^◌, ◌<◌, ◌≤◌, List, [], length, MatchResult, slice_index_or};
 ghost use Rattle.fault.specs.declared.Layer.TheVariants.{Roll};
 ghost use Rattle.fault.specs.declared.Refusal.TheVariants.{NoSuchSlot};
-ghost use Rattle.folding.specs.Cells.{under, Tree, cells as cells_of, Above};
+ghost use Rattle.folding.specs.Cells.{under, Tree, Above};
 ghost use Rattle.folding.specs.Keeping.{half, slots as slots_of, Clears, Puts, Spares, Gathers, Ready, Slotted};
 ghost use Rattle.folding.specs.Legs.{Folds, Associative};
 ghost use Rattle.folding.specs.Losing.{FirstLost};

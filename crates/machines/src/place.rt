@@ -84,10 +84,10 @@ impl Judging for PlaceMachine {
     ghost inhabited = { λ m. made_inhabited m.tables m.made };
 
     fn accepts(&self, at: &Relation) -> bool {
-        self.accepting(at.row(PlaceNo::start()))
+        self.accepting(at.row(PlaceNo::initial()))
     }
 
     fn lost(&self, at: &Relation) -> bool {
-        at.row(PlaceNo::start()) == 0
+        at.row(PlaceNo::initial()) == 0
     }
 }

@@ -144,11 +144,11 @@ impl Judging for SetMachine<'_> {
     ghost inhabited = { λ m. made_inhabited m.place.tables m.place.made };
 
     fn accepts(&self, at: &SetMap) -> bool {
-        self.place.accepting(self.set(at.to(SetNo::start())))
+        self.place.accepting(self.set(at.to(SetNo::initial())))
     }
 
     fn lost(&self, at: &SetMap) -> bool {
-        self.set(at.to(SetNo::start())) == 0
+        self.set(at.to(SetNo::initial())) == 0
     }
 }
 

@@ -1,5 +1,5 @@
 // The search that numbers the points of a space.
-ghost use Rattle.std.specs.Prelude.{◌≡◌, ℕ, ◌+◌, ◌*◌, ◌/◌, ◌<◌, ◌≤◌, ◌⊎◌, List, length, map, take, drop, Contains, MatchOption};
+ghost use Rattle.std.specs.Prelude.{◌≡◌, ℕ, ◌+◌, ◌*◌, ◌/◌, ◌<◌, ◌≤◌, ◌⊎◌, List, length, map, take, Contains, MatchOption};
 ghost use Rattle.numbering.specs.Filling.{Fills, Fit};
 ghost use Rattle.numbering.specs.Laws.{NumberingLaws};
 ghost use Rattle.numbering.specs.Reaching.{MoreThan};

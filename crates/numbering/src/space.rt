@@ -1,5 +1,5 @@
 // What is numbered: points, and how a table keeps them.
-ghost use Rattle.std.specs.Prelude.{◌≡◌, ℕ, ◌<◌, ◌≤◌, List, length, take, true, Contains, Decides, MatchOption, Some, slice_set};
+ghost use Rattle.std.specs.Prelude.{◌≡◌, ℕ, ◌<◌, List, length, take, true, Contains, Decides, MatchOption, Some, slice_set};
 ghost use Rattle.std.specs.List.{slice_get};
 
 // A first point, and for each point the next one at each byte.

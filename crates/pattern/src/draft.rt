@@ -2,7 +2,7 @@
 ghost use Rattle.std.specs.Prelude.{◌≡◌, true, IsSome, is_some};
 ghost use Rattle.std.specs.Fn.{FnOnceReturnsAt};
 ghost use Rattle.notation.specs.Expressions.{Regex};
-ghost use Rattle.notation.specs.Automaton.{Mode, Frame, ready, opened};
+ghost use Rattle.notation.specs.Automaton.{ready, opened};
 ghost use Rattle.pattern.specs.Drafts.{Keeps, WholeKept, ClosedKept, AtomKept, BarKept, RepeatKept, Repeats, Grows};
 ghost use Rattle.pattern.specs.Signs.{text, Formed, is_inner};
 

@@ -1,5 +1,5 @@
 // Whether a pattern is read or refused, in the order of the refusals.
-ghost use Rattle.std.specs.Prelude.{◌≡◌, MatchResult};
+ghost use Rattle.std.specs.Prelude.{MatchResult};
 ghost use Rattle.notation.specs.Reading.{Granted, Refused, Assembled, Unwritten};
 
 use crate::assembly::Assembly;

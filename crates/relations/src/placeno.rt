@@ -23,7 +23,8 @@ impl Model for PlaceNo {
 }
 
 impl PlaceNo {
-    pub fn start() -> PlaceNo
+    // State 0, which is before all places.
+    pub fn initial() -> PlaceNo
         ensures value { result ≡ 0 }
     {
         PlaceNo { number: 0 }
@@ -36,7 +37,7 @@ impl PlaceNo {
         PlaceNo { number: index % 64 }
     }
 
-    // The state that has this number once every place has moved `by` numbers on: the start stays
+    // The state that has this number once every place has moved `by` numbers on: the initial one stays
     // where it is, and the first `by` numbers are left to other places.
     pub fn earlier(self, by: usize) -> Option<PlaceNo>
         ensures value { MatchOption result ((1 ≤ self) × (self ≤ by)) (λ q. ((self ≡ 0) ⊎ (by < self)) × (q ≡ self - by)) }

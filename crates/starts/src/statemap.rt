@@ -1,5 +1,5 @@
 // Maps of an automaton's states: what a text does to each of them (in the field: a transformation).
-ghost use Rattle.std.specs.Prelude.{◌≡◌, ◌%◌, ◌<◌, ◌≤◌, slice_index};
+ghost use Rattle.std.specs.Prelude.{◌≡◌, ◌%◌, ◌<◌, slice_index};
 ghost use Rattle.starts.specs.Maps.{composed, identity as identity_map, then_byte, rows};
 
 use crate::automaton::Automaton;

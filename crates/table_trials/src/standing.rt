@@ -9,8 +9,8 @@ use starts::{StartMachine, StartNo};
 
 // Whether the set that the one leads to has exactly the states that the other leads to.
 pub(crate) fn alike(sets: &[u64; 64], by_sets: &SetMap, by_places: &Relation) -> bool {
-    let number = by_sets.to(SetNo::start());
-    sets[usize::from(number)] == by_places.row(PlaceNo::start())
+    let number = by_sets.to(SetNo::initial());
+    sets[usize::from(number)] == by_places.row(PlaceNo::initial())
 }
 
 // Where one more byte leads, from a start and from a set.

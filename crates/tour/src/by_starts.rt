@@ -1,7 +1,7 @@
 // The same roll under the start machine, which is the one to take for long texts: a byte is one
 // look-up, and a leg is two bytes.
 use crate::answers::tell;
-use crate::filing::file;
+use crate::filing::fill;
 use folding::fold::Folding;
 use folding::tally::Tallying;
 use machines::{PlaceMachine, SetMachine, build_sets};
@@ -33,13 +33,6 @@ fn roll_under(rt: &impl Print, machine: &StartMachine<SetMachine>) -> anyhow::Re
     };
     let mut roll = Roll::new::<StartMachine<SetMachine>, StartMachine<SetMachine>>();
     roll.open(&mut lent, 4)?;
-    for (slot, text) in [
-        (0, b"Ada\nBo".as_slice()),
-        (1, b"b\nCarl\n".as_slice()),
-        (2, b"Dora\n".as_slice()),
-        (3, b"Eve\n".as_slice()),
-    ] {
-        file(&mut roll, &mut lent, slot, text)?;
-    }
+    fill(&mut roll, &mut lent)?;
     tell(rt, "by starts", &roll, &lent)
 }

@@ -1,4 +1,4 @@
-// Filing a text that is at hand whole.
+// Filing texts that are at hand whole.
 use fault::Fault;
 use folding::fold::Judging;
 use folding::tally::Tally;
@@ -16,4 +16,17 @@ pub(crate) fn file<M: Judging>(
     let strip = strip_of(lent.machine, text)?;
     let tally = roll.file(lent, slot, strip)?;
     Ok(tally)
+}
+
+// The four strips of the names, slot by slot.
+pub(crate) fn fill<M: Judging>(roll: &mut Roll, lent: &mut LentMut<M>) -> Result<(), Fault> {
+    for (slot, text) in [
+        (0, b"Ada\nBo".as_slice()),
+        (1, b"b\nCarl\n".as_slice()),
+        (2, b"Dora\n".as_slice()),
+        (3, b"Eve\n".as_slice()),
+    ] {
+        file(roll, lent, slot, text)?;
+    }
+    Ok(())
 }

@@ -1,7 +1,7 @@
 // A roll under the machine of one's own.
 use crate::answers::tell;
 use crate::few_lines::FewLines;
-use crate::filing::file;
+use crate::filing::fill;
 use folding::fold::Folding;
 use folding::tally::Tallying;
 use roll::{LentMut, Roll};
@@ -16,14 +16,7 @@ pub(crate) fn roll_of_few_lines(rt: &impl Print) -> anyhow::Result<()> {
     };
     let mut roll = Roll::new::<FewLines, FewLines>();
     roll.open(&mut lent, 4)?;
-    for (slot, text) in [
-        (0, b"Ada\nBo".as_slice()),
-        (1, b"b\nCarl\n".as_slice()),
-        (2, b"Dora\n".as_slice()),
-        (3, b"Eve\n".as_slice()),
-    ] {
-        file(&mut roll, &mut lent, slot, text)?;
-    }
+    fill(&mut roll, &mut lent)?;
     tell(rt, "at most 3 lines", &roll, &lent)?;
     roll.withdraw(&mut lent, 1)?;
     tell(rt, "without slot 1", &roll, &lent)

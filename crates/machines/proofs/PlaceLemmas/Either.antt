@@ -51,8 +51,8 @@ module _ (L M : Lang (Place Symbol)) (a b r : Tables) (l : TablesFor L a) (m : T
           (by.accepts p).1
           (⊎_elim (λ x. inl ((l.ends p low).1 (f.0, x))) (λ x. inr ((m.ends p low).1 (f.0, x))) (union_ends L M (p, f.0) f.1)),
     );
-    start = (
-      λ h. ⊎_elim (λ x. inl (l.start.0 x)) (λ x. inr (m.start.0 x)) ((by.accepts 0).0 h),
-      λ j. (by.accepts 0).1 (⊎_elim (λ x. inl (l.start.1 x)) (λ x. inr (m.start.1 x)) j),
+    initial = (
+      λ h. ⊎_elim (λ x. inl (l.initial.0 x)) (λ x. inr (m.initial.0 x)) ((by.accepts 0).0 h),
+      λ j. (by.accepts 0).1 (⊎_elim (λ x. inl (l.initial.1 x)) (λ x. inr (m.initial.1 x)) j),
     );
   }

@@ -134,8 +134,8 @@ module _ (n lo hi : ℕ) (low : 1 ≤ lo) (room : hi + n ≤ 64) (L M : Lang (Pl
           let (lt, high, is) = shown p f.0 y e (on_ends L y g) in
           (by.accepts p).1 (inr (lt, high, subst (Has a.accepts) is ((l.ends y.0 (omega arith)).1 (y.1, g)))),
     );
-    start = (
-      λ h. c.to [] (l.start.0 (⊎_elim (λ z. z.1) (λ z. absurd (let e = z.0 in omega arith)) ((by.accepts 0).0 h))),
-      λ m. (by.accepts 0).1 (inl (refl, l.start.1 (none_moved n L M c m))),
+    initial = (
+      λ h. c.to [] (l.initial.0 (⊎_elim (λ z. z.1) (λ z. absurd (let e = z.0 in omega arith)) ((by.accepts 0).0 h))),
+      λ m. (by.accepts 0).1 (inl (refl, l.initial.1 (none_moved n L M c m))),
     );
   }

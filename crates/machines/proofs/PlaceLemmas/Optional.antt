@@ -34,5 +34,5 @@ module _ (L : Lang (Place Symbol)) (a r : Tables) (l : TablesFor L a) where
           (s, ends_larger L (Union L Empty) (λ ps. inl) (p, s) f),
       λ f. (by.accepts p).1 (inl ((l.ends p low).1 (f.0, ⊎_elim (λ x. x) (λ x. absurd (none_on (p, f.0) (on_ends Empty (p, f.0) x))) (union_ends L Empty (p, f.0) f.1)))),
     );
-    start = (λ h. inr refl, λ j. (by.accepts 0).1 (inr refl));
+    initial = (λ h. inr refl, λ j. (by.accepts 0).1 (inr refl));
   }

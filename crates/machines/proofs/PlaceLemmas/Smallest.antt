@@ -20,8 +20,8 @@ use Rattle.machines.proofs.PlaceLemmas.Tabling.{TablesFor}
 no_member : (n q p : ℕ) → q < n → Has (get_or (replicate n 0) q 0) p → ⊥
 no_member n q p lt h = zero_has p (subst (λ x. Has x p) (get_or-replicate n q 0 0 lt) h)
 
-pub nothing_by : (start : ℕ) → SetOf start (λ p. p ≡ 0) → TablesBy (record { follow = replicate 64 0; takes = replicate 256 0; accepts = start }) (λ q p. ⊥) (λ c p. ⊥) (λ p. p ≡ 0)
-nothing_by start zeroth = record {
+pub nothing_by : (initial : ℕ) → SetOf initial (λ p. p ≡ 0) → TablesBy (record { follow = replicate 64 0; takes = replicate 256 0; accepts = initial }) (λ q p. ⊥) (λ c p. ⊥) (λ p. p ≡ 0)
+nothing_by initial zeroth = record {
   rows = λ q p lt. (no_member 64 q p lt, λ h. absurd h);
   takes = λ c p lt. (no_member 256 c p lt, λ h. absurd h);
   accepts = zeroth.at;
@@ -39,8 +39,8 @@ module _ (place : ℕ) (one : SetOf place (λ p. p ≡ 1)) where
       (λ h. absurd (zero_has p (subst (λ x. Has x p) at h)), λ h. absurd (ne h.0)))
       (cases_eq q 0)
 
-  pub place_by : (takes : List ℕ) (start : ℕ) → start ≡ 0 → TablesBy (record { follow = set (replicate 64 0) start place; takes = takes; accepts = place }) (λ q p. (q ≡ 0) × (p ≡ 1)) (λ c p. Has (get_or takes c 0) p) (λ p. p ≡ 1)
-  place_by takes start e =
+  pub place_by : (takes : List ℕ) (initial : ℕ) → initial ≡ 0 → TablesBy (record { follow = set (replicate 64 0) initial place; takes = takes; accepts = place }) (λ q p. (q ≡ 0) × (p ≡ 1)) (λ c p. Has (get_or takes c 0) p) (λ p. p ≡ 1)
+  place_by takes initial e =
       subst (λ s. TablesBy (record { follow = set (replicate 64 0) s place; takes = takes; accepts = place }) (λ q p. (q ≡ 0) × (p ≡ 1)) (λ c p. Has (get_or takes c 0) p) (λ p. p ≡ 1))
       (sym e) (record { rows = one_row; takes = λ c p lt. (own_members (get_or takes c 0)).at p; accepts = one.at })
 
@@ -52,7 +52,7 @@ nothing_tables r by = record {
   follow = λ q p low high. (λ h. absurd ((by.rows q p high).0 h), λ f. absurd (none_on (q, f.0) (on_before Empty (q, f.0) (p, f.1) f.2)));
   takes = λ c p byte. (λ h. absurd ((by.takes c p byte).0 h), λ f. absurd (none_on (p, f.0) f.1));
   ends = λ p low. (λ h. absurd (let z = (by.accepts p).0 h in omega arith), λ f. absurd (none_on (p, f.0) (on_ends Empty (p, f.0) f.1)));
-  start = (λ h. refl, λ j. (by.accepts 0).1 refl);
+  initial = (λ h. refl, λ j. (by.accepts 0).1 refl);
 }
 
 -- Place 1 alone.
@@ -75,7 +75,7 @@ place_tables s r by = record {
     λ h. (s, ([], here p ((by.accepts p).0 h))),
     λ f. (by.accepts p).1 (sym (number p f.0 (on_ends (Single (1, s)) (p, f.0) f.1))),
   );
-  start = (λ h. absurd (let z = (by.accepts 0).0 h in omega arith), λ j. absurd (not_empty (sym j.1)));
+  initial = (λ h. absurd (let z = (by.accepts 0).0 h in omega arith), λ j. absurd (not_empty (sym j.1)));
 }
   where
     here : (p : ℕ) → p ≡ 1 → Single (1, s) ((p, s) ∷ [])

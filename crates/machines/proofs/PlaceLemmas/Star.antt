@@ -43,5 +43,5 @@ module _ (L : Lang (Place Symbol)) (a r : Tables) (l : TablesFor L a) where
           (s, ends_larger L (Closure L) (closure_once L) (p, s) f),
       λ f. (by.accepts p).1 (inl ((l.ends p low).1 (f.0, closure_ends L (p, f.0) f.1))),
     );
-    start = (λ h. closure_none L, λ j. (by.accepts 0).1 (inr refl));
+    initial = (λ h. closure_none L, λ j. (by.accepts 0).1 (inr refl));
   }

@@ -15,7 +15,7 @@ pub record TablesFor (L : Lang (Place Symbol)) (t : Tables) : Type 0 where
   pub follow : (q p : ℕ) → 1 ≤ q → q < 64 → Has (followers t q) p ↔ ((s : Symbol) × (u : Symbol) × Follows L (q, s) (p, u))
   pub takes : (c p : ℕ) → c < 256 → Has (takers t c) p ↔ ((s : Symbol) × On L (p, s) × Takes s c)
   pub ends : (p : ℕ) → 1 ≤ p → Has t.accepts p ↔ ((s : Symbol) × Ends L (p, s))
-  pub start : Has t.accepts 0 ↔ L []
+  pub initial : Has t.accepts 0 ↔ L []
 
 pub of_for : (e : Regex) (t : Tables) → places e ≤ 63 → TablesFor (Spelling e) t → TablesOf e t
 of_for e t few f = record {
@@ -24,7 +24,7 @@ of_for e t few f = record {
   follow = f.follow;
   takes = f.takes;
   ends = f.ends;
-  start = (λ h. spelled_meant Takes e [] ([], f.start.0 h, tt), λ m. let s = meant_spelled Takes e [] m in f.start.1 (none s.0 s.1 s.2));
+  initial = (λ h. spelled_meant Takes e [] ([], f.initial.0 h, tt), λ m. let s = meant_spelled Takes e [] m in f.initial.1 (none s.0 s.1 s.2));
 }
   where
     none : (ps : List (Place Symbol)) → Spelling e ps → Spells {A = ℕ} Takes ps [] → Spelling e []
@@ -37,7 +37,7 @@ for_of e t f = record {
   follow = f.follow;
   takes = f.takes;
   ends = f.ends;
-  start = (λ h. let s = meant_spelled Takes e [] (f.start.0 h) in none s.0 s.1 s.2, λ l. f.start.1 (spelled_meant Takes e [] ([], l, tt)));
+  initial = (λ h. let s = meant_spelled Takes e [] (f.initial.0 h) in none s.0 s.1 s.2, λ l. f.initial.1 (spelled_meant Takes e [] ([], l, tt)));
 }
   where
     none : (ps : List (Place Symbol)) → Spelling e ps → Spells {A = ℕ} Takes ps [] → Spelling e []

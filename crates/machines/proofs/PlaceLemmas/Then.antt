@@ -10,11 +10,11 @@ use Rattle.machines.specs.Place.Shown.Joining.{Inhabited, joined_first, first_le
 use Rattle.machines.specs.Place.Shown.Splits.{both_empty}
 use Rattle.machines.proofs.PlaceLemmas.Tabling.{TablesFor}
 
--- a state other than the start is a place
-pub is_place : (when : Bool) (q start : ℕ) → when ≡ not (q == start) → start ≡ 0 → Decides when (1 ≤ q)
-is_place when q start is zero = (
-  λ h. let other = eqb-false q start (not-true _ (sym is ∙ h)) in omega arith,
-  λ le. is ∙ not_from_false _ (ne_eqb q start (λ e. omega arith)),
+-- a state other than the initial one is a place
+pub is_place : (when : Bool) (q initial : ℕ) → when ≡ not (q == initial) → initial ≡ 0 → Decides when (1 ≤ q)
+is_place when q initial is zero = (
+  λ h. let other = eqb-false q initial (not-true _ (sym is ∙ h)) in omega arith,
+  λ le. is ∙ not_from_false _ (ne_eqb q initial (λ e. omega arith)),
 )
 
 module _ (L M : Lang (Place Symbol)) (a b r : Tables) (l : TablesFor L a) (m : TablesFor M b) where
@@ -25,14 +25,14 @@ module _ (L M : Lang (Place Symbol)) (a b r : Tables) (l : TablesFor L a) (m : T
           ⊎_elim
           (λ x. let (s, f) = (l.first p).0 x in (s, first_left L M (p, s) some_m f))
           (⊎_elim
-          (λ x. let (s, f) = (m.first p).0 x.1 in (s, first_right L M (p, s) (l.start.0 x.0) f))
+          (λ x. let (s, f) = (m.first p).0 x.1 in (s, first_right L M (p, s) (l.initial.0 x.0) f))
           (λ x. absurd (let z = x.0 in omega arith)))
           ((by.rows 0 p (omega arith)).0 h),
       λ f.
           (by.rows 0 p (omega arith)).1
           (⊎_elim
           (λ x. inl ((l.first p).1 (f.0, x)))
-          (λ x. inr (inl (l.start.1 x.0, (m.first p).1 (f.0, x.1))))
+          (λ x. inr (inl (l.initial.1 x.0, (m.first p).1 (f.0, x.1))))
           (joined_first L M (p, f.0) f.1)),
     );
     follow = λ q p low high. (
@@ -69,24 +69,24 @@ module _ (L M : Lang (Place Symbol)) (a b r : Tables) (l : TablesFor L a) (m : T
       λ h.
           ⊎_elim
           (λ x. let (s, f) = (m.ends p low).0 x.1 in (s, ends_right L M (p, s) some_l f))
-          (λ x. let (s, f) = (l.ends p low).0 x.1 in (s, ends_left L M (p, s) (m.start.0 x.0) f))
+          (λ x. let (s, f) = (l.ends p low).0 x.1 in (s, ends_left L M (p, s) (m.initial.0 x.0) f))
           ((by.accepts p).0 h),
       λ f.
           (by.accepts p).1
           (⊎_elim
           (λ x. inl (low, (m.ends p low).1 (f.0, x)))
-          (λ x. inr (m.start.1 x.0, (l.ends p low).1 (f.0, x.1)))
+          (λ x. inr (m.initial.1 x.0, (l.ends p low).1 (f.0, x.1)))
           (joined_ends L M (p, f.0) f.1)),
     );
-    start = (
+    initial = (
       λ h.
           ⊎_elim
           (λ x. absurd (let z = x.0 in omega arith))
-          (λ x. ([], [], refl, l.start.0 x.1, m.start.0 x.0))
+          (λ x. ([], [], refl, l.initial.0 x.1, m.initial.0 x.0))
           ((by.accepts 0).0 h),
       λ j.
           let (u, v, e, x, y) = j in
           let (no-u, no-v) = both_empty u v e in
-          (by.accepts 0).1 (inr (m.start.1 (subst M no-v y), l.start.1 (subst L no-u x))),
+          (by.accepts 0).1 (inr (m.initial.1 (subst M no-v y), l.initial.1 (subst L no-u x))),
     );
   }

@@ -7,9 +7,9 @@ use Rattle.numbering.specs.Laws.{NumberingLaws}
 use Rattle.machines.specs.declared.place.tables.Tables.{Tables}
 use Rattle.machines.specs.Place.Runs.{stepped}
 use Rattle.machines.specs.Set.Building.{SetsGranted}
-use Rattle.machines.specs.Set.Tables.{start}
+use Rattle.machines.specs.Set.Tables.{initial}
 
-pub granted : (t : Tables) (n : ℕ) (were are before after : List ℕ) → were ≡ replicate 64 0 → before ≡ replicate 16384 0 → length are ≡ 64 → length after ≡ 16384 → NumberingLaws start (stepped t) → Fills start (stepped t) n were are (map (λ k. k) before) (map (λ k. k) after) → SetsGranted t n are after
+pub granted : (t : Tables) (n : ℕ) (were are before after : List ℕ) → were ≡ replicate 64 0 → before ≡ replicate 16384 0 → length are ≡ 64 → length after ≡ 16384 → NumberingLaws initial (stepped t) → Fills initial (stepped t) n were are (map (λ k. k) before) (map (λ k. k) after) → SetsGranted t n are after
 granted t n were are before after no_sets no_moves long rows laws fills =
     let few : n ≤ 64 = omega (arith, fills.count, length-take n are, long) in (
       λ more. omega (arith, (laws.more (take n are) fills.numbers 64).0 more, fills.count, few),

@@ -21,7 +21,7 @@ use Rattle.machines.specs.Reached.{SameStart}
 use Rattle.machines.specs.Set.Runs.{moved_by}
 use Rattle.machines.specs.Set.Shown.{moved_within}
 use Rattle.machines.specs.Set.Starting.{StartsReached}
-use Rattle.machines.specs.Set.Tables.{start, SetTables, Simulates}
+use Rattle.machines.specs.Set.Tables.{initial, SetTables, Simulates}
 use Rattle.machines.specs.Soundness.{Sane}
 use Rattle.machines.proofs.SetLemmas.Reaching.{after_run, same_states, same_mask}
 use Rattle.machines.proofs.SetLemmas.Simulating.{same_led, led_set}
@@ -41,7 +41,7 @@ module _ (t : Tables) (n : ℕ) (sets moves : List ℕ) (tables : SetTables t n 
   below w s bytes low = led_below (moved_by moves) n within w s bytes low
 
   -- the set of the number that a text leads to from set 0
-  set_of : (w : List ℕ) → Bytes w → get_or sets (leads w 0) 0 ≡ run t w start
+  set_of : (w : List ℕ) → Bytes w → get_or sets (leads w 0) 0 ≡ run t w initial
   set_of w bytes =
       ap (λ k. get_or sets k 0) (same_led t n sets moves simulates w 0 bytes simulates.0)
       ∙ (led_set t n sets moves simulates w 0 bytes simulates.0).1
@@ -58,8 +58,8 @@ module _ (t : Tables) (n : ℕ) (sets moves : List ℕ) (tables : SetTables t n 
   -- each set is reached
   reached : (s : ℕ) → s < n → (u : List ℕ) × Bytes u × (leads u 0 ≡ s)
   reached s low =
-      let (u, bytes, is) = ((numbering_laws start (stepped t)).reached (take n sets) tables.numbers (get_or sets s 0)).0 (contains_at (take n sets) s _ (at_number s low)) in
-      (u, bytes, one_number _ s (below u 0 bytes simulates.0) low (set_of u bytes ∙ sym (after_run t u start) ∙ sym is))
+      let (u, bytes, is) = ((numbering_laws initial (stepped t)).reached (take n sets) tables.numbers (get_or sets s 0)).0 (contains_at (take n sets) s _ (at_number s low)) in
+      (u, bytes, one_number _ s (below u 0 bytes simulates.0) low (set_of u bytes ∙ sym (after_run t u initial) ∙ sym is))
 
   few : n ≤ 64
   few = tables.few

@@ -5,7 +5,7 @@ use Rattle.std.proofs.lemmas.List.{length-take, length-take-le, get_or-take}
 use Rattle.std.proofs.lemmas.Option.{slice_get_within, get_or_from_slice_get}
 use Rattle.machines.specs.declared.place.tables.Tables.{Tables}
 use Rattle.machines.specs.Place.Runs.{stepped}
-use Rattle.machines.specs.Set.Tables.{start, SetTables, Simulates}
+use Rattle.machines.specs.Set.Tables.{initial, SetTables, Simulates}
 
 -- what stands among the first n of a list
 front : (n : ℕ) (xs : List ℕ) (k x : ℕ) → slice_get (take n xs) k ≡ Some x → (k < n) × (get_or xs k 0 ≡ x)
@@ -17,8 +17,8 @@ front n xs k x e =
 pub tables_simulate : (t : Tables) (n : ℕ) (sets moves : List ℕ) → SetTables t n sets moves → Simulates t n sets moves
 tables_simulate t n sets moves tables = (first.0, tables.few, tables.room, tables.rows, first.1, leads)
   where
-    first : (0 < n) × (get_or sets 0 0 ≡ start)
-    first = front n sets 0 start tables.numbers.begins
+    first : (0 < n) × (get_or sets 0 0 ≡ initial)
+    first = front n sets 0 initial tables.numbers.begins
 
     all : length (take n sets) ≡ n
     all = length-take-le n sets (let few = tables.few in let room = tables.room in omega arith)

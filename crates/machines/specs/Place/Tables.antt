@@ -35,7 +35,7 @@ pub record TablesOf (e : Regex) (t : Tables) : Type 0 where
   pub follow : (q p : ℕ) → 1 ≤ q → q < 64 → Has (slice_index t.follow q) p ↔ Comes e q p
   pub takes : (c p : ℕ) → c < 256 → Has (slice_index t.takes c) p ↔ PlaceTakes e c p
   pub ends : (p : ℕ) → 1 ≤ p → Has t.accepts p ↔ Closes e p
-  pub start : Has t.accepts 0 ↔ Matches e []
+  pub initial : Has t.accepts 0 ↔ Matches e []
 
 abbrev pub Made : Tables → Type 0
 Made t = ∥ ((e : Regex) × Sane e × TablesOf e t) ∥₁

@@ -11,10 +11,10 @@ use Rattle.numbering.specs.Reaching.{MoreThan}
 use Rattle.starts.specs.Building.{unbuilt}
 use Rattle.machines.specs.declared.place.tables.Tables.{Tables}
 use Rattle.machines.specs.Place.Runs.{stepped}
-use Rattle.machines.specs.Set.Tables.{start, SetTables}
+use Rattle.machines.specs.Set.Tables.{initial, SetTables}
 
 abbrev pub MoreMasks : Tables → Type 0
-MoreMasks t = MoreThan 64 start (stepped t)
+MoreMasks t = MoreThan 64 initial (stepped t)
 
 abbrev pub SetsGranted : Tables → ℕ → List ℕ → List ℕ → Type 0
 SetsGranted t n sets moves = (MoreMasks t → ⊥) × SetTables t n sets moves

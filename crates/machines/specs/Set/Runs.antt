@@ -2,7 +2,7 @@
 --
 --   moved_by moves s c          the entry of set s at the byte c, as the number of a set
 --   transformation n moves w    the map of numbers that w makes, where there are n sets: a number that no set has stays where it is
-use Rattle.std.specs.Prelude.{ℕ, ◌+◌, ◌*◌, ◌%◌, cond, List, [], ◌∷◌, nat_lt, slice_index}
+use Rattle.std.specs.Prelude.{ℕ, ◌%◌, cond, List, nat_lt}
 use Rattle.starts.specs.Automata.{led}
 use Rattle.starts.specs.Runs.{move_of}
 use Rattle.machines.specs.declared.set.map.SetMap.{SetMap}

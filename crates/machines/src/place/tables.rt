@@ -33,7 +33,7 @@ impl Tables {
         Tables {
             follow: [0; 64],
             takes: [0; 256],
-            accepts: single(PlaceNo::start()),
+            accepts: single(PlaceNo::initial()),
         }
     }
 
@@ -43,7 +43,7 @@ impl Tables {
     {
         let place = single(PlaceNo::nth(1));
         let mut follow = [0; 64];
-        follow[usize::from(PlaceNo::start())] = place;
+        follow[usize::from(PlaceNo::initial())] = place;
         Tables {
             follow,
             takes,
@@ -64,26 +64,26 @@ impl Tables {
     pub(crate) fn later(&self, by: usize) -> Tables
         ensures members { Later by self.now result }
     {
-        let start = PlaceNo::start();
+        let initial = PlaceNo::initial();
         Tables {
             follow: array::from_fn(|q| self.later_row(by, PlaceNo::nth(q))),
             takes: array::from_fn(|c| later(self.takes[c], by)),
-            accepts: only(single(start), has(self.accepts, start)) | later(self.accepts, by),
+            accepts: only(single(initial), has(self.accepts, initial)) | later(self.accepts, by),
         }
     }
 
     fn then_row(&self, second: &Tables, q: PlaceNo) -> u64
         ensures members { SetOf result (ThenRow self.now second.now q) }
     {
-        let across = only(second.followers(PlaceNo::start()), has(self.accepts, q));
-        self.followers(q) | (across | only(second.followers(q), q != PlaceNo::start()))
+        let across = only(second.followers(PlaceNo::initial()), has(self.accepts, q));
+        self.followers(q) | (across | only(second.followers(q), q != PlaceNo::initial()))
     }
 
     // This and then `second`, whose places come later.
     pub(crate) fn then(&self, second: &Tables) -> Tables
         ensures members { Then self.now second.now result }
     {
-        let own = only(self.accepts, has(second.accepts, PlaceNo::start()));
+        let own = only(self.accepts, has(second.accepts, PlaceNo::initial()));
         Tables {
             follow: array::from_fn(|q| self.then_row(second, PlaceNo::nth(q))),
             takes: union(&self.takes, &second.takes),
@@ -105,7 +105,7 @@ impl Tables {
     fn star_row(&self, q: PlaceNo) -> u64
         ensures members { SetOf result (StarRow self.now q) }
     {
-        self.followers(q) | only(self.followers(PlaceNo::start()), has(self.accepts, q))
+        self.followers(q) | only(self.followers(PlaceNo::initial()), has(self.accepts, q))
     }
 
     // This any number of times.
@@ -115,7 +115,7 @@ impl Tables {
         Tables {
             follow: array::from_fn(|q| self.star_row(PlaceNo::nth(q))),
             takes: self.takes,
-            accepts: self.accepts | single(PlaceNo::start()),
+            accepts: self.accepts | single(PlaceNo::initial()),
         }
     }
 
@@ -126,7 +126,7 @@ impl Tables {
         Tables {
             follow: self.follow,
             takes: self.takes,
-            accepts: self.accepts | single(PlaceNo::start()),
+            accepts: self.accepts | single(PlaceNo::initial()),
         }
     }
 }

@@ -4,7 +4,7 @@ ghost use Rattle.machines.specs.Place.Runs.{stepped};
 ghost use Rattle.machines.specs.Set.Building.{MoreMasks, SetsGranted, SetsRefused};
 ghost use Rattle.machines.specs.Place.Tables.{TablesOf};
 ghost use Rattle.machines.specs.Reached.{MoreSets};
-ghost use Rattle.machines.specs.Set.Tables.{start};
+ghost use Rattle.machines.specs.Set.Tables.{initial};
 ghost use Rattle.machines.specs.Soundness.{Sane};
 ghost use Rattle.notation.specs.Expressions.{Regex};
 ghost use Rattle.numbering.specs.Laws.{NumberingLaws};
@@ -23,12 +23,12 @@ pub const MOVES: usize = 256 * SETS;
 
 // The sets of states that texts lead to, from the one that has state 0 alone.
 impl Space<u64> for PlaceMachine {
-    ghost first = { λ m. start };
+    ghost first = { λ m. initial };
 
     ghost next = { λ m set c. stepped m.tables set c };
 
     fn first(&self) -> u64 {
-        single(PlaceNo::start())
+        single(PlaceNo::initial())
     }
 
     fn next(&self, set: &u64, c: u8) -> u64 {
@@ -49,7 +49,7 @@ impl Space<u64> for PlaceMachine {
 pub fn build_sets(place: &PlaceMachine, sets: &mut [u64], moves: &mut [u8]) -> Result<usize, Fault>
     ensures outcome { MatchResult result (λ n. SetsGranted place.now.tables n sets.new moves.new) (λ f. SetsRefused place.now.tables sets.old moves.old f sets.new moves.new) }
     ensures reached { (e : Regex) → Sane e → TablesOf e place.now.tables → MoreMasks place.now.tables ↔ MoreSets 64 e }
-    ensures laws { NumberingLaws start (stepped place.now.tables) }
+    ensures laws { NumberingLaws initial (stepped place.now.tables) }
 {
     if sets.len() != SETS {
         return Err(Layer::Build.fault(Refusal::TableLength, 0));

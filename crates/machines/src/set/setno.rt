@@ -4,7 +4,7 @@ ghost use Rattle.std.specs.Prelude.{◌≡◌, ◌%◌, ◌<◌};
 
 use std::marker::Model;
 
-// A set's number, in the order of first meeting; 0 is the set of state 0 alone.
+// A set's number, in the order of first meeting.
 #[derive(Clone, Copy, PartialEq, Eq, Debug)]
 pub struct SetNo {
     number: u8,
@@ -23,7 +23,8 @@ impl Model for SetNo {
 }
 
 impl SetNo {
-    pub fn start() -> SetNo
+    // The set of state 0 alone.
+    pub fn initial() -> SetNo
         ensures value { result ≡ 0 }
     {
         SetNo { number: 0 }

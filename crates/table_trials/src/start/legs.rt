@@ -85,7 +85,7 @@ fn same_map(map: &StateMap, set: &SetMachine, leg: &SetMap) -> bool {
 // Whether the moves of both lead from set 0 to the same set, byte for byte.
 fn same_moves(machine: &StartMachine<SetMachine>, set: &SetMachine, text: &[u8]) -> bool {
     let mut start = StartNo::identity();
-    let mut number = SetNo::start();
+    let mut number = SetNo::initial();
     for c in text {
         (start, number) = standing::onward(machine, set, start, number, *c);
         if machine.map(start).to(0) != usize::from(number) {

@@ -55,7 +55,7 @@ module _ (e : Regex) (sane : Sane e) (t : Tables) (of : TablesOf e t) where
       ((r, u) ∷ rest.0, (f', rest.1), (subst (λ y. Takes y c) (linear.alone r u' u o' on) takes, rest.2))
 
   pub run_meant : (w : List ℕ) (p : ℕ) → Reaches e w 0 p → Has t.accepts p → Matches e w
-  run_meant [] p r h = of.start.0 (subst (Has t.accepts) (sym r) h)
+  run_meant [] p r h = of.initial.0 (subst (Has t.accepts) (sym r) h)
   run_meant (c ∷ w) p (r, (starts, stands), more) h =
       let (s, f) = starts in
       let (s', o', takes) = stands in
@@ -79,7 +79,7 @@ module _ (e : Regex) (sane : Sane e) (t : Tables) (of : TablesOf e t) where
       (rest.0, (p.0, step, rest.1), rest.2)
 
   from_start : (ps : List (Place Symbol)) (w : List ℕ) → L ps → Spells Takes ps w → EndsIn w 0
-  from_start [] [] l h = (0, refl, of.start.1 (spelled_meant Takes e [] ([], l, tt)))
+  from_start [] [] l h = (0, refl, of.initial.1 (spelled_meant Takes e [] ([], l, tt)))
   from_start [] (c ∷ w) l h = absurd h
   from_start (p ∷ ps) [] l h = absurd h
   from_start (p ∷ ps) (c ∷ w) l h =

@@ -12,5 +12,5 @@ returns c =
     record {
       cases = λ w bytes is.
           subst (λ b. Decides b (Meant m.tables w)) (sym c.accepting.ensures.value)
-          (accepts_decides m.tables m.made w bytes at is c.row.result (c.row.ensures.value ∙ ap (row at) c.start.ensures.value));
+          (accepts_decides m.tables m.made w bytes at is c.row.result (c.row.ensures.value ∙ ap (row at) c.initial.ensures.value));
     }

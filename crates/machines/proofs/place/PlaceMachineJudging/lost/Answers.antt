@@ -7,4 +7,4 @@ pub returns : goal.returns
 returns c =
     let m = c.args.self.now in
     let at = c.args.at.now in
-    record { cases = λ w bytes is. lost_cases m.tables m.made w bytes at is c.row.result (c.row.ensures.value ∙ ap (row at) c.start.ensures.value) }
+    record { cases = λ w bytes is. lost_cases m.tables m.made w bytes at is c.row.result (c.row.ensures.value ∙ ap (row at) c.initial.ensures.value) }

@@ -13,5 +13,5 @@ returns c =
     record {
       cases = λ w bytes is.
           subst (λ b. Decides b (Meant t w)) (sym c.accepting.ensures.value)
-          (accepts_decides t m.place.made w bytes (leg t w) refl c.set.result (judged t m.count m.sets.now m.moves.now m.simulates w bytes c.args.at.now is _ _ _ c.start.ensures.value c.to.ensures.value c.set.ensures.value));
+          (accepts_decides t m.place.made w bytes (leg t w) refl c.set.result (judged t m.count m.sets.now m.moves.now m.simulates w bytes c.args.at.now is _ _ _ c.initial.ensures.value c.to.ensures.value c.set.ensures.value));
     }

@@ -1,7 +1,7 @@
 use Rattle.std.proofs.Common.{◌≡◌, ℕ, ◌*◌, ◌≤◌, length, map, replicate, sym, ap, ◌∙◌, inr, subst, List, arith}
 use Rattle.std.proofs.lemmas.List.{map-id}
 use Rattle.machines.specs.Place.Runs.{stepped}
-use Rattle.machines.specs.Set.Tables.{start}
+use Rattle.machines.specs.Set.Tables.{initial}
 use Rattle.numbering.specs.Reaching.{MoreThan}
 use Rattle.numbering.proofs.Numbers.{numbering_laws}
 use Rattle.machines.proofs.SetLemmas.Building.{granted}
@@ -9,10 +9,10 @@ use Rattle.machines.proofs.SetLemmas.Reaching.{more_sets}
 use Rattle.machines.proofs.set.build.build_sets.Goals as goal
 
 pub returns-then-sets-ne-SETS-clause-laws : goal.returns-then-sets-ne-SETS-clause-laws
-returns-then-sets-ne-SETS-clause-laws c = numbering_laws start (stepped c.args.place.now.tables)
+returns-then-sets-ne-SETS-clause-laws c = numbering_laws initial (stepped c.args.place.now.tables)
 
 pub returns-then-moves-ne-MOVES-clause-laws : goal.returns-then-moves-ne-MOVES-clause-laws
-returns-then-moves-ne-MOVES-clause-laws c = numbering_laws start (stepped c.args.place.now.tables)
+returns-then-moves-ne-MOVES-clause-laws c = numbering_laws initial (stepped c.args.place.now.tables)
 
 -- the tables that the search is lent have room for 64 sets, and their moves
 fits : (sets moves : List ℕ) → length sets ≡ 64 → length moves ≡ 16384 → (length (map (λ k. k) moves) ≡ 256 * length sets) × (length sets ≤ 256)
@@ -35,7 +35,7 @@ returns-in-None-clause-outcome c =
     (inr (
       c.if-sets-ne-SETS.false,
       c.if-moves-ne-MOVES.false,
-      subst (λ n. MoreThan n start (stepped c.args.place.now.tables)) long more,
+      subst (λ n. MoreThan n initial (stepped c.args.place.now.tables)) long more,
       c.fault-in-None.ensures.value,
       c.blank-in-None.ensures.sets ∙ ap (λ n. replicate n 0) (c.number.auto.cells ∙ long),
       c.blank-in-None.ensures.moves ∙ ap (λ n. replicate n 0) (c.number.auto.moves ∙ rows),

@@ -15,7 +15,7 @@ returns c =
         takes = rows_by (λ k. LaterIn by (takers a k)) c.from_fn-2.ensures.items (λ i y f lt h. search rules) (λ i y f lt h. search rules);
         accepts =
             (either_members c.only.result c.later.result
-            (rw c.start-start.ensures.value at (swapped c.only.result (only_members c.only.result c.single.result c.has.result c.only.ensures.members c.has.ensures.cases c.single.ensures.members)))
+            (rw c.initial-initial.ensures.value at (swapped c.only.result (only_members c.only.result c.single.result c.has.result c.only.ensures.members c.has.ensures.cases c.single.ensures.members)))
             c.later.ensures.members).at;
       };
     }

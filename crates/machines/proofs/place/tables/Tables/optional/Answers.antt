@@ -9,6 +9,6 @@ returns c =
       members = record {
         rows = λ q p lt. (own_members (followers a q)).at p;
         takes = λ k p lt. (own_members (takers a k)).at p;
-        accepts = (either_members a.accepts c.single.result (own_members a.accepts) (rw c.start.ensures.value at c.single.ensures.members)).at;
+        accepts = (either_members a.accepts c.single.result (own_members a.accepts) (rw c.initial.ensures.value at c.single.ensures.members)).at;
       };
     }

@@ -11,6 +11,6 @@ returns c =
       members = record {
         rows = rows_by_state (StarRow a) c.from_fn.ensures.items (λ i y f lt h. search rules) (λ i y f lt h. search rules);
         takes = λ k p lt. (own_members (takers a k)).at p;
-        accepts = (either_members a.accepts c.single.result (own_members a.accepts) (rw c.start.ensures.value at c.single.ensures.members)).at;
+        accepts = (either_members a.accepts c.single.result (own_members a.accepts) (rw c.initial.ensures.value at c.single.ensures.members)).at;
       };
     }

@@ -6,7 +6,7 @@ use Rattle.machines.proofs.place.tables.Tables.star_row.Goals as goal
 pub returns : goal.returns
 returns c =
     let a = c.args.self.now in
-    let first = same_members c.followers-2.result (followers a 0) (c.followers-2.ensures.value ∙ ap (followers a) c.start.ensures.value) in
+    let first = same_members c.followers-2.result (followers a 0) (c.followers-2.ensures.value ∙ ap (followers a) c.initial.ensures.value) in
     record {
       members =
           either_members c.followers.result c.only.result (same_members c.followers.result (followers a c.args.q) c.followers.ensures.value)

@@ -14,6 +14,6 @@ returns c =
         takes = c.union.ensures.members;
         accepts =
             (either_members c.places.result c.only-own.result c.places.ensures.members
-            (rw c.start.ensures.value at (only_members c.only-own.result a.accepts c.has.result c.only-own.ensures.members c.has.ensures.cases (own_members a.accepts)))).at;
+            (rw c.initial.ensures.value at (only_members c.only-own.result a.accepts c.has.result c.only-own.ensures.members c.has.ensures.cases (own_members a.accepts)))).at;
       };
     }
