@@ -2,8 +2,8 @@
 --
 --   over n w             w, n times in a row
 --   Verdict M w r        r is whether w is in M
---   cut n w              the first n pieces of 8,000 bytes of w, each the next 8,000 or what is left
---   Corrected M w s v r  r is whether the 128 pieces of w, of which that of the slot s is v in its place, make a text in M, or the fault of a slot
+--   in_strips n w        w in n strips, each the next 8,000 bytes or what is left of them
+--   Corrected M w s v r  r is whether the 128 strips of w, of which that of the slot s is v in its place, make a text in M, or the fault of a slot
 --                        that there is not
 --   code r               the number of an outcome: 0 no, 1 yes, and of a refusal its own number and 1
 --   Says A n             n is the number of what A says
@@ -24,14 +24,14 @@ over (suc n) w = over n w ++ w
 abbrev pub Verdict : (List ℕ → Type 0) → List ℕ → Outcome → Type 0
 Verdict M w r = MatchResult r (λ b. Decides b (M w)) (λ f. ⊥)
 
-unfoldable pub cut : ℕ → List ℕ → List (List ℕ)
-cut zero w = []
-cut (suc n) w = take 8000 w ∷ cut n (drop 8000 w)
+unfoldable pub in_strips : ℕ → List ℕ → List (List ℕ)
+in_strips zero w = []
+in_strips (suc n) w = take 8000 w ∷ in_strips n (drop 8000 w)
 
 abbrev pub Corrected : (List ℕ → Type 0) → List ℕ → ℕ → List ℕ → Outcome → Type 0
 Corrected M w s v r =
     MatchResult r
-    (λ b. (s < 128) × Decides b (M (together (slice_set (cut 128 w) s (take 8000 v)))))
+    (λ b. (s < 128) × Decides b (M (together (slice_set (in_strips 128 w) s (take 8000 v)))))
     (λ f. (128 ≤ s) × (f ≡ fault NoSuchSlot s))
 
 abbrev pub code : Outcome → ℕ

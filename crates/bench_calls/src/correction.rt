@@ -1,8 +1,7 @@
 // A roll that is filled and then corrected.
-ghost use Rattle.std.specs.Prelude.{◌≡◌, length, map, take, Some, IfOk, MatchResult, slice_set};
-ghost use Rattle.bench_calls.specs.Answers.{Corrected, cut};
+ghost use Rattle.std.specs.Prelude.{◌≡◌, length, map, take, replicate, None, Some, IfOk, MatchResult, slice_set};
+ghost use Rattle.bench_calls.specs.Answers.{Corrected, in_strips};
 ghost use Rattle.bench_calls.specs.Rolls.{Corrects, Puts};
-ghost use Rattle.bundle.specs.Outcome.{opened};
 ghost use Rattle.folding.specs.Texts.{Bytes, together};
 ghost use Rattle.notation.specs.Meaning.{Matches};
 ghost use Rattle.roll.specs.Lending.{StillLent, with};
@@ -15,12 +14,10 @@ use folding::fold::{Folding, Judging};
 use folding::tally::Tallying;
 use machines::SetMachine;
 use roll::feeding::strip_of;
-use roll::{LentMut, Roll};
+use roll::{LentMut, MOST_SLOTS, Roll};
 use starts::StartMachine;
 
-const SLOTS: usize = 128;
-
-const CELLS: usize = 2 * SLOTS;
+const CELLS: usize = 2 * MOST_SLOTS;
 
 const STRIP: usize = 8000;
 
@@ -51,10 +48,10 @@ fn corrected<M: Judging>(asked: &Correction, lent: &mut LentMut<M>) -> Result<bo
     requires legs { length lent.old.legs.now ≡ 256 }
     requires tallies { length lent.old.tallies.now ≡ 256 }
     ensures corrected { Corrected (M.Judging.means lent.old.machine.now) asked.now.text.now asked.now.slot asked.now.strip.now result }
-    ensures bytes { IfOk result (λ _. Bytes (together (slice_set (cut 128 asked.now.text.now) asked.now.slot (take 8000 asked.now.strip.now)))) }
+    ensures bytes { IfOk result (λ _. Bytes (together (slice_set (in_strips 128 asked.now.text.now) asked.now.slot (take 8000 asked.now.strip.now)))) }
 {
     let mut roll = Roll::new::<M, M>();
-    roll.open(lent, SLOTS)?;
+    roll.open(lent, MOST_SLOTS)?;
     fill(&mut roll, lent, asked.text)?;
     let mut verdict = correct(&mut roll, lent, asked.slot, asked.strip)?;
     for _ in 0..asked.more {
@@ -64,12 +61,12 @@ fn corrected<M: Judging>(asked: &Correction, lent: &mut LentMut<M>) -> Result<bo
 }
 
 fn fill<M: Judging>(roll: &mut Roll, lent: &mut LentMut<M>, text: &[u8]) -> Result<(), Fault>
-    requires empty { Stands (M.Folding.leg lent.old.machine.now) (with roll.old lent.old) opened }
-    ensures filled { MatchResult result (λ _. Stands (M.Folding.leg lent.old.machine.now) (with roll.new lent.new) (map Some (cut 128 text.now))) (λ f. ⊥) }
+    requires empty { Stands (M.Folding.leg lent.old.machine.now) (with roll.old lent.old) (replicate 128 None) }
+    ensures filled { MatchResult result (λ _. Stands (M.Folding.leg lent.old.machine.now) (with roll.new lent.new) (map Some (in_strips 128 text.now))) (λ f. ⊥) }
     ensures lent { StillLent lent.old lent.new }
 {
     let mut rest = text;
-    for slot in 0..SLOTS {
+    for slot in 0..MOST_SLOTS {
         file(roll, lent, slot, rest)?;
         rest = &rest[STRIP.min(rest.len())..];
     }

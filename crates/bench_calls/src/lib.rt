@@ -4,7 +4,7 @@
 
 ghost use Rattle.std.specs.Prelude.{◌≡◌};
 ghost use Rattle.bench_calls.specs.Answers.{Says, Verdict, Corrected, code as code_of, over};
-ghost use Rattle.law.specs.Built.{Under, Sets, Starts};
+ghost use Rattle.law.specs.Order.{AfterReading, AfterSets, AfterStarts};
 ghost use Rattle.notation.specs.Meaning.{Matches};
 
 mod building;
@@ -16,6 +16,10 @@ use crate::building::{under_place, under_set, under_start};
 use crate::correction::Correction;
 use crate::repetition::Repetition;
 use fault::Fault;
+use starts::MOST_ROWS;
+
+// As many as `rollcheck` has.
+const FEW_ROWS: usize = 96;
 
 fn code(outcome: Result<bool, Fault>) -> u32
     ensures value { result ≡ code_of outcome }
@@ -29,7 +33,7 @@ fn code(outcome: Result<bool, Fault>) -> u32
 // Under the place machine.
 #[unsafe(no_mangle)]
 pub extern "C" fn bench_place(pattern: &[u8], text: &[u8], times: u32) -> u32
-    ensures says { Says (Under pattern.now (λ e. Verdict (Matches e) (over times text.now))) result }
+    ensures says { Says (AfterReading pattern.now (λ e. Verdict (Matches e) (over times text.now))) result }
 {
     code(under_place(pattern, text, times))
 }
@@ -37,7 +41,7 @@ pub extern "C" fn bench_place(pattern: &[u8], text: &[u8], times: u32) -> u32
 // Under the set machine.
 #[unsafe(no_mangle)]
 pub extern "C" fn bench_set(pattern: &[u8], text: &[u8], times: u32) -> u32
-    ensures says { Says (Under pattern.now (Sets (λ e. Verdict (Matches e) (over times text.now)))) result }
+    ensures says { Says (AfterReading pattern.now (AfterSets (λ e. Verdict (Matches e) (over times text.now)))) result }
 {
     code(under_set(pattern, text, times))
 }
@@ -45,23 +49,23 @@ pub extern "C" fn bench_set(pattern: &[u8], text: &[u8], times: u32) -> u32
 // Under the start machine, with 512 rows: as many as the number of a start can name.
 #[unsafe(no_mangle)]
 pub extern "C" fn bench_start(pattern: &[u8], text: &[u8], times: u32) -> u32
-    ensures says { Says (Under pattern.now (Sets (Starts 512 (λ e. Verdict (Matches e) (over times text.now))))) result }
+    ensures says { Says (AfterReading pattern.now (AfterSets (AfterStarts 512 (λ e. Verdict (Matches e) (over times text.now))))) result }
 {
-    let mut maps = [0; 64 * 512];
-    let mut moves = [0; 256 * 512];
+    let mut maps = [0; 64 * MOST_ROWS];
+    let mut moves = [0; 256 * MOST_ROWS];
     let repetition = Repetition { text, times };
-    code(under_start(pattern, 512, &mut maps, &mut moves, &repetition))
+    code(under_start(pattern, MOST_ROWS, &mut maps, &mut moves, &repetition))
 }
 
 // Under the start machine, with 96 rows.
 #[unsafe(no_mangle)]
 pub extern "C" fn bench_small_start(pattern: &[u8], text: &[u8], times: u32) -> u32
-    ensures says { Says (Under pattern.now (Sets (Starts 96 (λ e. Verdict (Matches e) (over times text.now))))) result }
+    ensures says { Says (AfterReading pattern.now (AfterSets (AfterStarts 96 (λ e. Verdict (Matches e) (over times text.now))))) result }
 {
-    let mut maps = [0; 64 * 96];
-    let mut moves = [0; 256 * 96];
+    let mut maps = [0; 64 * FEW_ROWS];
+    let mut moves = [0; 256 * FEW_ROWS];
     let repetition = Repetition { text, times };
-    code(under_start(pattern, 96, &mut maps, &mut moves, &repetition))
+    code(under_start(pattern, FEW_ROWS, &mut maps, &mut moves, &repetition))
 }
 
 // Under the start machine, with 512 rows: a roll of 128 slots into which the text is filed in strips of
@@ -75,15 +79,15 @@ pub extern "C" fn bench_correct(
     strip: &[u8],
     more: u32,
 ) -> u32
-    ensures says { Says (Under pattern.now (Sets (Starts 512 (λ e. Corrected (Matches e) text.now slot strip.now)))) result }
+    ensures says { Says (AfterReading pattern.now (AfterSets (AfterStarts 512 (λ e. Corrected (Matches e) text.now slot strip.now)))) result }
 {
-    let mut maps = [0; 64 * 512];
-    let mut moves = [0; 256 * 512];
+    let mut maps = [0; 64 * MOST_ROWS];
+    let mut moves = [0; 256 * MOST_ROWS];
     let correction = Correction {
         text,
         slot,
         strip,
         more,
     };
-    code(under_start(pattern, 512, &mut maps, &mut moves, &correction))
+    code(under_start(pattern, MOST_ROWS, &mut maps, &mut moves, &correction))
 }

@@ -50,6 +50,3 @@ module _ {L : Type 0} (leg : List ℕ → L) (M : List ℕ → Type 0) (new : Ro
           (subst (λ y. y) (λ i. Run leg M s (questions (l i) (k i) (record { verdict = b; totals = t; culprit = c }) (filings (length legs) (length tallies) ss (opening_of (length legs) (length tallies) done))))
           (goes_on leg M (goes_on leg M (goes_on leg M (filed_run (Ok tt) s ran) (judges (Ok b) judging refl)) (adds (Ok t) adding refl)) (blames (Ok c) blaming refl)))
 
--- what a call does under a machine and on cells that are the same
-pub does_at : {X L : Type 0} (leg : X → List ℕ → L) (M : X → List ℕ → Type 0) {x y : X} (r : Roll) {l l' : List L} {t t' : List Tally} (c : Call) (a : Answer) → x ≡ y → l ≡ l' → t ≡ t' → Does (leg x) (M x) (state r l t) c a (state r l t) → Does (leg y) (M y) (state r l' t') c a (state r l' t')
-does_at leg M r c a machine legs tallies does = subst (λ z. z) (λ i. Does (leg (machine i)) (M (machine i)) (state r (legs i) (tallies i)) c a (state r (legs i) (tallies i))) does

@@ -10,7 +10,7 @@
 use Rattle.std.specs.Prelude.{◌≡◌, ℕ, ◌⊎◌, List, Ok, Err, Result}
 use Rattle.fault.specs.Lines.{line}
 use Rattle.fault.specs.declared.Fault.{Fault}
-use Rattle.law.specs.Built.{Under, Sets, Starts}
+use Rattle.law.specs.Order.{AfterReading, AfterSets, AfterStarts}
 use Rattle.notation.specs.Expressions.{Regex}
 use Rattle.notation.specs.Meaning.{Matches}
 use Rattle.bundle.specs.Layout.{Piece, written}
@@ -24,10 +24,10 @@ abbrev pub rows : ℕ
 rows = 96
 
 abbrev pub Started : List Piece → Regex → Result Report Fault → Type 0
-Started ss = Starts rows (λ e. Reported (Matches e) (filed opened ss))
+Started ss = AfterStarts rows (λ e. Reported (Matches e) (filed opened ss))
 
 abbrev pub Checked : List ℕ → List Piece → Result Report Fault → Type 0
-Checked p ss r = Under p (Sets (Started ss)) r
+Checked p ss r = AfterReading p (AfterSets (Started ss)) r
 
 abbrev pub Outcome : List ℕ → Result Report Fault → Type 0
 Outcome input r = ((RightSize input → ⊥) × (r ≡ Err (wrong_size input))) ⊎ (RightSize input × ((p : List ℕ) × (ss : List Piece) × (input ≡ written p ss) × Checked p ss r))

@@ -10,23 +10,23 @@ ghost use Rattle.bundle.specs.Handed.{left};
 ghost use Rattle.bundle.specs.Layout.{OfBytes};
 
 use crate::decode::Bundle;
-use crate::filing::{SLOTS, report};
+use crate::filing::report;
 use crate::report::Report;
 use crate::walk::Strips;
 use fault::Fault;
 use folding::fold::Folding;
 use folding::tally::Tallying;
 use law::{machine_of, set_machine_of, start_machine_of};
-use machines::{PlaceMachine, SetMachine, build_sets};
+use machines::{MOVES, PlaceMachine, SETS, SetMachine, build_sets};
 use pattern::Pattern;
-use roll::LentMut;
+use roll::{LentMut, MOST_SLOTS};
 use starts::build_starts;
 use std::alloc::{AllocError, Global};
 
 // How many starts there is room for.
-const ROWS: usize = 96;
+pub const ROWS: usize = 96;
 
-const CELLS: usize = 2 * SLOTS;
+const CELLS: usize = 2 * MOST_SLOTS;
 
 // Reads the pattern, builds its machines and files the strips into a roll of 128 slots; the first
 // refusal ends it.
@@ -37,8 +37,8 @@ pub fn check(input: &[u8]) -> Result<Report, Fault>
     let mut pattern = Pattern::new();
     pattern.read(bundle.pattern())?;
     let place = machine_of::<PlaceMachine>(&pattern);
-    let mut sets = [0; 64];
-    let mut moves = [0; 16384];
+    let mut sets = [0; SETS];
+    let mut moves = [0; MOVES];
     let count = build_sets(&place, &mut sets, &mut moves)?;
     let set = set_machine_of::<PlaceMachine>(&pattern, place, count, &sets, &moves);
     judge(&pattern, &set, bundle.strips())

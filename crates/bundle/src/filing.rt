@@ -7,9 +7,7 @@ use crate::report::Report;
 use crate::walk::{Strip, Strips};
 use fault::Fault;
 use folding::fold::Judging;
-use roll::{LentMut, Roll, feeding};
-
-pub(crate) const SLOTS: usize = 128;
+use roll::{LentMut, MOST_SLOTS, Roll, feeding};
 
 // The roll and what is lent with its calls stay two values: a roll outlives what is lent.
 fn file_one<M: Judging>(roll: &mut Roll, lent: &mut LentMut<M>, strip: Strip) -> Result<(), Fault>
@@ -45,7 +43,7 @@ pub fn report<M: Judging>(lent: &mut LentMut<M>, strips: Strips) -> Result<Repor
     ensures lent { StillLent lent.old lent.new }
 {
     let mut roll = Roll::new::<M, M>();
-    roll.open(lent, SLOTS)?;
+    roll.open(lent, MOST_SLOTS)?;
     file_all(&mut roll, lent, strips)?;
     let lent = lent.shared();
     Ok(Report {

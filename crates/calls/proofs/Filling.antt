@@ -14,44 +14,35 @@ use Rattle.roll.specs.Stands.{State, Stands}
 use Rattle.roll.specs.Steps.{FedAtOnce, Files}
 use Rattle.roll.specs.declared.strip.Returned.{Returned}
 use Rattle.roll.specs.declared.strip.Strip.{Strip}
-use Rattle.roll.proofs.Filling.{filed_in, no_slot, held, held_more, together_more, whole_held, length_held}
+use Rattle.roll.proofs.Filling.{filed_in, no_slot, held, together_more, whole_held, Front, front_none, front_size, front_more}
 
 -- the first `slot` slots hold the head of the text, and `rest` is to come
 pub record Along {L : Type 0} (leg : List ℕ → L) (s : State L) (text rest : List ℕ) (slot : ℕ) : Type 0 where
   pub strips : List (List ℕ)
-  pub left : ℕ
-  pub are : length strips ≡ slot
-  pub slots : slot + left ≡ 128
-  pub stands : Stands leg s (held strips left)
+  pub front : Front leg s strips slot
   pub joined : together strips ++ rest ≡ text
   pub most : length (together strips) ≤ 1000000 * slot
   pub full : 0 < length rest → length (together strips) ≡ 1000000 * slot
 
 module _ {L : Type 0} (leg : List ℕ → L) where
   pub along_none : (s : State L) (text : List ℕ) → Stands leg s (replicate 128 None) → Along leg s text text 0
-  along_none s text stands = record { strips = []; left = 128; are = refl; slots = refl; stands = stands; joined = refl; most = omega arith; full = λ some. refl }
+  along_none s text stands = record { strips = []; front = front_none leg s stands; joined = refl; most = omega arith; full = λ some. refl }
 
   pub along_all : (s : State L) (text rest : List ℕ) (slot : ℕ) → length rest ≡ 0 → Along leg s text rest slot → (length text ≤ room) × Filled leg s text
   along_all s text rest slot end along =
       let all : together along.strips ≡ text = sym (append-nil (together along.strips)) ∙ ap (λ l. together along.strips ++ l) (sym (nil_from_length rest end)) ∙ along.joined in
       let long = ap length all in
       let most = along.most in
-      let empty = along.slots in
-      (omega arith, record { plain = held along.strips along.left; stands = along.stands; slots = length_held along.strips along.left ∙ ap (λ k. k + along.left) along.are ∙ along.slots; holds = whole_held along.strips along.left ∙ all })
+      let slots = along.front.slots in
+      (omega arith, record { plain = held along.strips along.front.left; stands = along.front.stands; slots = front_size leg s along.strips slot along.front; holds = whole_held along.strips along.front.left ∙ all })
 
   module _ (M : List ℕ → Type 0) (was is : State L) (text rest : List ℕ) (slot : ℕ) (along : Along leg was text rest slot) where
-    count : length (held along.strips along.left) ≡ 128
-    count = length_held along.strips along.left ∙ ap (λ k. k + along.left) along.are ∙ along.slots
+    count : length (held along.strips along.front.left) ≡ 128
+    count = front_size leg was along.strips slot along.front
 
     pub along_more : (w later : List ℕ) {strip : Strip L} (t : Tally) → rest ≡ w ++ later → length w ≡ min (length rest) 1000000 → FedAtOnce leg w strip → Files leg M was slot strip (Ok t) is → Along leg is text later (slot + 1)
     along_more w later t parts long fed filed =
-        let n = along.left - 1 in
-        let are = along.are in
-        let empty = along.slots in
-        let in' = filed_in leg M was is _ along.stands slot w t fed filed in
-        let free : slot < 128 = subst (λ k. slot < k) count in'.0 in
-        let left : along.left ≡ suc n = omega arith in
-        let filled = ap (λ k. set (held along.strips k) slot (Some w)) left ∙ ap (λ k. set (held along.strips (suc n)) k (Some w)) (sym are) ∙ held_more along.strips n w in
+        let in' = filed_in leg M was is _ along.front.stands slot w t fed filed in
         let joined = together_more along.strips w in
         let sizes = ap length parts ∙ length-append w later in
         let longer = ap length joined ∙ length-append (together along.strips) w in
@@ -59,10 +50,7 @@ module _ {L : Type 0} (leg : List ℕ → L) where
         let full = along.full in
         record {
           strips = along.strips ++ w ∷ [];
-          left = n;
-          are = length-append along.strips (w ∷ []) ∙ ap (λ k. k + 1) are;
-          slots = omega arith;
-          stands = subst (Stands leg is) filled in'.1;
+          front = front_more leg was is along.strips slot w along.front (subst (λ k. slot < k) count in'.0) in'.1;
           joined = ap (λ l. l ++ later) joined ∙ append_assoc (together along.strips) w later ∙ ap (λ l. together along.strips ++ l) (sym parts) ∙ along.joined;
           most = omega arith;
           full = λ some. let before = full (omega arith) in omega arith;
@@ -70,9 +58,9 @@ module _ {L : Type 0} (leg : List ℕ → L) where
 
     pub along_stop : {strip : Strip L} (e : Returned L) → 0 < length rest → Files leg M was slot strip (Err e) is → (room < length text) × (e.fault ≡ fault NoSuchSlot 128)
     along_stop e some filed =
-        let stop = no_slot leg M was is _ along.stands slot e filed in
+        let stop = no_slot leg M was is _ along.front.stands slot e filed in
         let over : 128 ≤ slot = subst (λ k. k ≤ slot) count stop.0 in
-        let empty = along.slots in
+        let slots = along.front.slots in
         let is : slot ≡ 128 = omega arith in
         let full = along.full some in
         let long = ap length along.joined in

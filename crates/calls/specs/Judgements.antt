@@ -14,7 +14,7 @@ use Rattle.fault.specs.Numbers.{number}
 use Rattle.fault.specs.declared.Fault.{Fault}
 use Rattle.fault.specs.declared.Refusal.TheVariants.{NoSuchSlot}
 use Rattle.folding.specs.Tallies.{tally}
-use Rattle.law.specs.Built.{Under, Sets, Starts}
+use Rattle.law.specs.Order.{AfterReading, AfterSets, AfterStarts}
 use Rattle.notation.specs.Expressions.{Regex}
 use Rattle.notation.specs.Meaning.{Matches}
 use Rattle.roll.specs.Refusals.{fault}
@@ -27,10 +27,10 @@ abbrev pub Told : (List ℕ → Type 0) → List ℕ → Result Answers Fault �
 Told M w r = MatchResult r (λ a. (length w ≤ room) × Decides a.verdict (M w) × (a.totals ≡ tally w)) (λ f. (room < length w) × (f ≡ fault NoSuchSlot 128))
 
 abbrev pub Started : List ℕ → Regex → Result Answers Fault → Type 0
-Started w = Starts rows (λ e. Told (Matches e) w)
+Started w = AfterStarts rows (λ e. Told (Matches e) w)
 
 abbrev pub Judges : List ℕ → List ℕ → Result Answers Fault → Type 0
-Judges p w r = Under p (Sets (Started w)) r
+Judges p w r = AfterReading p (AfterSets (Started w)) r
 
 abbrev pub numbers : Result Answers Fault → Judgement
 numbers (Ok a) = record { refusal = 0; verdict = a.verdict; bytes = a.totals.bytes; lines = a.totals.lines; place = 0 }

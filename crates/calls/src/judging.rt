@@ -14,25 +14,18 @@ ghost use Rattle.roll.specs.Lending.{StillLent, with};
 ghost use Rattle.roll.specs.Refusals.{fault as roll_fault};
 ghost use Rattle.roll.specs.Stands.{Stands};
 
+use bundle::check::ROWS;
 use fault::Fault;
 use folding::fold::{Folding, Judging};
 use folding::tally::{Tally, Tallying};
 use law::{machine_of, set_machine_of, start_machine_of};
-use machines::{PlaceMachine, SetMachine, build_sets};
+use machines::{MOVES, PlaceMachine, SETS, SetMachine, build_sets};
 use pattern::Pattern;
-use roll::feeding::strip_of;
-use roll::{LentMut, Roll};
+use roll::feeding::{LONGEST, strip_of};
+use roll::{LentMut, MOST_SLOTS, Roll};
 use starts::build_starts;
 
-// As many starts as `rollcheck` has room for, so that the same patterns are refused with the same place.
-// The tables lie on the caller's stack, where 512 rows would take 240 KB more.
-const ROWS: usize = 96;
-
-const SLOTS: usize = 128;
-
-const CELLS: usize = 2 * SLOTS;
-
-const LONGEST: usize = 1_000_000;
+const CELLS: usize = 2 * MOST_SLOTS;
 
 // `refusal` is 0 where the text was judged, and then `verdict` says whether it follows the pattern,
 // `bytes` and `lines` are its tally, and `place` is 0. Else it is the number of the refusal, whose place
@@ -86,14 +79,16 @@ fn judge(pattern: &[u8], text: &[u8]) -> Result<Answers, Fault>
     let mut record = Pattern::new();
     record.read(pattern)?;
     let place = machine_of::<PlaceMachine>(&record);
-    let mut sets = [0; 64];
-    let mut moves = [0; 16384];
+    let mut sets = [0; SETS];
+    let mut moves = [0; MOVES];
     let count = build_sets(&place, &mut sets, &mut moves)?;
     let set = set_machine_of::<PlaceMachine>(&record, place, count, &sets, &moves);
     from_starts(&record, &set, text)
 }
 
-// From the set machine of the pattern on.
+// From the set machine of the pattern on, with as many rows as `rollcheck` has, so that the same patterns
+// are refused with the same place. The tables lie on the caller's stack, where 512 rows would take 240 KB
+// more.
 fn from_starts(pattern: &Pattern, set: &SetMachine, text: &[u8]) -> Result<Answers, Fault>
     requires of { OfPattern pattern.now set.now.place.tables }
     requires starts { StartsReached set.now.place.tables set.now.count set.now.moves.now }
@@ -118,7 +113,7 @@ fn rolled<M: Judging>(lent: &mut LentMut<M>, text: &[u8]) -> Result<Answers, Fau
     ensures bytes { IfOk result (λ a. Bytes text.now) }
 {
     let mut roll = Roll::new::<M, M>();
-    roll.open(lent, SLOTS)?;
+    roll.open(lent, MOST_SLOTS)?;
     file_all(&mut roll, lent, text)?;
     let lent = lent.shared();
     Ok(Answers {

@@ -92,7 +92,7 @@ pub fn whole<F: Folding>(folding: &F, cells: &[F::Leg]) -> F::Leg
 }
 
 // The lowest slot after which the text cannot be completed any more. A lost text stays lost, so it is
-// found by halving: in all no more joins than slots, and one question to a halving.
+// found by halving: in all no more joins than slots, a question to each halving, and one at the end.
 pub fn first_lost<M: Judging>(machine: &M, cells: &[M::Leg]) -> Option<usize>
     ensures value { (slots : List (List ℕ)) → AllBytes slots → Slotted (M.Folding.leg machine.now) cells.now slots → FirstLost (M.Judging.means machine.now) slots result }
 {

@@ -1,3 +1,3 @@
-pub mod Built
+pub mod Order
 mod Meaning
 mod Wholly

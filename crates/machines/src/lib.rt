@@ -13,4 +13,4 @@ pub mod examples;
 pub use crate::place::PlaceMachine;
 pub use crate::place::build::build;
 pub use crate::set::SetMachine;
-pub use crate::set::build::build_sets;
+pub use crate::set::build::{MOVES, SETS, build_sets};

@@ -1,5 +1,5 @@
 -- A strip that is fed at once and filed, and a roll that is filled from its first slot on. Assumes nothing.
-use Rattle.std.proofs.Common.{◌≡◌, ℕ, zero, suc, ◌+◌, ◌<◌, ◌≤◌, Bool, true, false, ltb, List, [], ◌∷◌, ◌++◌, map, length, set, replicate, Some, None, Ok, Err, Option, sym, refl, ap, ◌∙◌, subst, append_assoc, append-nil, length-append}
+use Rattle.std.proofs.Common.{◌≡◌, ℕ, zero, suc, ◌+◌, ◌-◌, ◌<◌, ◌≤◌, Bool, true, false, ltb, List, [], ◌∷◌, ◌++◌, map, length, set, replicate, Some, None, Ok, Err, Option, sym, refl, ap, ◌∙◌, subst, append_assoc, append-nil, length-append, arith}
 use lib.ListN.{length-map}
 use Rattle.std.proofs.Math.Seq.{set-append_seam}
 use Rattle.std.proofs.lemmas.Bool.{ltb-false}
@@ -58,3 +58,31 @@ whole_held (w ∷ ts) n = ap (λ l. w ++ l) (whole_held ts n)
 
 pub length_held : (ts : List (List ℕ)) (n : ℕ) → length (held ts n) ≡ length ts + n
 length_held ts n = length-append (map Some ts) (replicate {A = Option (List ℕ)} n None) ∙ ap (λ k. k + length (replicate {A = Option (List ℕ)} n None)) (length-map ts Some) ∙ ap (λ k. length ts + k) (length-replicate {A = Option (List ℕ)} n None)
+
+-- the strips ts fill the first n of 128 slots
+pub record Front {L : Type 0} (leg : List ℕ → L) (s : State L) (ts : List (List ℕ)) (n : ℕ) : Type 0 where
+  pub left : ℕ
+  pub are : length ts ≡ n
+  pub slots : n + left ≡ 128
+  pub stands : Stands leg s (held ts left)
+
+module _ {L : Type 0} (leg : List ℕ → L) where
+  pub front_none : (s : State L) → Stands leg s (replicate 128 None) → Front leg s [] 0
+  front_none s stands = record { left = 128; are = refl; slots = refl; stands = stands }
+
+  pub front_size : (s : State L) (ts : List (List ℕ)) (n : ℕ) (front : Front leg s ts n) → length (held ts front.left) ≡ 128
+  front_size s ts n front = length_held ts front.left ∙ ap (λ k. k + front.left) front.are ∙ front.slots
+
+  pub front_more : (was is : State L) (ts : List (List ℕ)) (n : ℕ) (w : List ℕ) (front : Front leg was ts n) → n < 128 → Stands leg is (set (held ts front.left) n (Some w)) → Front leg is (ts ++ w ∷ []) (n + 1)
+  front_more was is ts n w front in' stands =
+      let k = front.left - 1 in
+      let are = front.are in
+      let slots = front.slots in
+      let left : front.left ≡ suc k = omega arith in
+      let filled = ap (λ m. set (held ts m) n (Some w)) left ∙ ap (λ m. set (held ts (suc k)) m (Some w)) (sym are) ∙ held_more ts k w in
+      record {
+        left = k;
+        are = length-append ts (w ∷ []) ∙ ap (λ m. m + 1) are;
+        slots = omega arith;
+        stands = subst (Stands leg is) filled stands;
+      }

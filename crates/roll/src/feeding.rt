@@ -6,7 +6,8 @@ use fault::{Fault, Layer, Refusal};
 use folding::fold::Folding;
 use folding::tally::Tallying;
 
-const LONGEST: usize = 1_000_000;
+// As many bytes as a strip can have.
+pub const LONGEST: usize = 1_000_000;
 
 // An open strip of no bytes.
 pub fn begin<M: Folding>(machine: &M) -> Strip<M::Leg>

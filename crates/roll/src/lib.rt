@@ -11,5 +11,5 @@ pub mod slot;
 pub mod strip;
 
 pub use crate::lent::{Lent, LentMut};
-pub use crate::roll::Roll;
+pub use crate::roll::{MOST_SLOTS, Roll};
 pub use crate::strip::{Returned, Strip};

@@ -9,7 +9,7 @@ ghost use Rattle.roll.specs.Steps.{AsMade};
 ghost use Rattle.roll.specs.declared.slot.Slot.TheVariants.{Empty};
 
 use crate::lent::LentMut;
-use crate::roll::Roll;
+use crate::roll::{MOST_SLOTS, Roll};
 use crate::slot::Slot;
 use arrayvec::ArrayVec;
 use fault::{Fault, Layer, Refusal};
@@ -24,11 +24,11 @@ fn allowed(n: usize) -> bool
     matches!(n, 1 | 2 | 4 | 8 | 16 | 32 | 64 | 128)
 }
 
-fn empty_slots(n: usize) -> ArrayVec<Slot, 128>
+fn empty_slots(n: usize) -> ArrayVec<Slot, MOST_SLOTS>
     requires few { n ≤ 128 }
     ensures value { result.items ≡ replicate n Empty }
 {
-    ArrayVec::try_from(&[Slot::Empty; 128][..n]).unwrap()
+    ArrayVec::try_from(&[Slot::Empty; MOST_SLOTS][..n]).unwrap()
 }
 
 impl Roll {

@@ -8,6 +8,6 @@ pub mod startno;
 pub mod statemap;
 
 pub use crate::automaton::Automaton;
-pub use crate::build::build_starts;
+pub use crate::build::{MOST_ROWS, build_starts};
 pub use crate::machine::StartMachine;
 pub use crate::startno::StartNo;

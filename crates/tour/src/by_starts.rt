@@ -4,7 +4,7 @@ use crate::answers::tell;
 use crate::filing::fill;
 use folding::fold::Folding;
 use folding::tally::Tallying;
-use machines::{PlaceMachine, SetMachine, build_sets};
+use machines::{MOVES, PlaceMachine, SETS, SetMachine, build_sets};
 use roll::{LentMut, Roll};
 use starts::{StartMachine, build_starts};
 
@@ -13,8 +13,8 @@ const ROWS: usize = 8;
 
 // The tables are lent for the builds, and then for as long as the machines are used.
 pub(crate) fn roll_by_starts(rt: &impl Print, place: PlaceMachine) -> anyhow::Result<()> {
-    let mut sets = [0; 64];
-    let mut moves = [0; 256 * 64];
+    let mut sets = [0; SETS];
+    let mut moves = [0; MOVES];
     let count = build_sets(&place, &mut sets, &mut moves)?;
     let set = SetMachine::new(place, count, &sets, &moves);
     let mut maps = [0; 64 * ROWS];

@@ -1,6 +1,6 @@
 use Rattle.std.proofs.Common.{◌∙◌}
 use Rattle.std.proofs.lemmas.Result.{err_from_is_err_and}
-use Rattle.law.proofs.Built.{no_starts, with_starts}
+use Rattle.law.proofs.Order.{no_starts, with_starts}
 use Rattle.bench_calls.proofs.building.from_starts.Goals as goal
 
 pub returns-in_err-count : goal.returns-in_err-count

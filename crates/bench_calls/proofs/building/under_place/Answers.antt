@@ -1,5 +1,5 @@
 use Rattle.std.proofs.lemmas.Bool.Decides.{Decides-like}
-use Rattle.law.proofs.Built.{under}
+use Rattle.law.proofs.Order.{under}
 use Rattle.notation.specs.Meaning.{Matches}
 use Rattle.bench_calls.specs.Answers.{Verdict, over}
 use Rattle.bench_calls.proofs.building.under_place.Goals as goal

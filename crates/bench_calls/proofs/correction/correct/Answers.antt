@@ -1,7 +1,7 @@
 use Rattle.std.proofs.Common.{◌∙◌, ap, subst, sym, take, Some, set}
 use Rattle.bench_calls.specs.Rolls.{Corrects}
 use Rattle.bench_calls.proofs.Rolls.{verdict_of}
-use Rattle.bundle.proofs.Running.{does_at}
+use Rattle.roll.proofs.Lending.{does_at}
 use Rattle.roll.specs.Calls.{judged}
 use Rattle.roll.specs.Lending.{with}
 use Rattle.roll.specs.Refusals.{verdict}

@@ -6,11 +6,11 @@ use Rattle.roll.specs.Lending.{with, before}
 use Rattle.roll.specs.Refusals.{Call, verdict, totals, culprit}
 use Rattle.roll.specs.Stands.{State}
 use Rattle.roll.specs.Steps.{Does}
-use Rattle.roll.proofs.Lending.{still_lent}
+use Rattle.roll.proofs.Lending.{does_at, still_lent}
 use Rattle.bundle.specs.Handed.{left}
 use Rattle.bundle.specs.History.{FiledAll}
 use Rattle.bundle.proofs.Reporting.{ran_reported}
-use Rattle.bundle.proofs.Running.{not_opened, not_filed, not_refused, all_answered, does_at}
+use Rattle.bundle.proofs.Running.{not_opened, not_filed, not_refused, all_answered}
 use Rattle.bundle.proofs.filing.report.Given as given
 use Rattle.bundle.proofs.filing.report.Goals as goal
 use Rattle.bundle.proofs.filing.report.Goals.{After-file_all, After-shared-lent}

@@ -1,7 +1,7 @@
 use Rattle.std.proofs.Common.{ℕ, ◌∙◌, arith}
 use Rattle.std.proofs.lemmas.List.{length-replicate}
 use Rattle.std.proofs.lemmas.Result.{err_from_is_err_and}
-use Rattle.law.proofs.Built.{no_starts, with_starts}
+use Rattle.law.proofs.Order.{no_starts, with_starts}
 use Rattle.notation.specs.Meaning.{Matches}
 use Rattle.calls.specs.Judgements.{Told}
 use Rattle.calls.proofs.Filling.{told_same}
