@@ -1,5 +1,5 @@
 -- A roll that is filled with the strips of a text, one of which is then filed anew. Assumes nothing.
-use Rattle.std.proofs.Common.{◌≡◌, ℕ, zero, suc, ◌+◌, ◌-◌, ◌<◌, ◌≤◌, Bool, List, [], ◌∷◌, ◌++◌, map, length, take, drop, set, replicate, Some, None, Ok, Err, Result, Decides, sym, refl, ap, ◌∙◌, subst, append_assoc, append-nil, arith, length-append}
+use Rattle.std.proofs.Common.{◌≡◌, ℕ, zero, suc, ◌+◌, ◌-◌, ◌<◌, ◌≤◌, Bool, List, [], ◌∷◌, ◌++◌, map, length, take, drop, set, replicate, Some, None, Ok, Err, Result, Decides, sym, refl, ap, ◌∙◌, subst, append_assoc, append-nil, arith}
 use lib.ListN.{length-map}
 use Rattle.std.proofs.Math.Seq.{set-set}
 use Rattle.std.proofs.lemmas.List.{map-set}
@@ -32,33 +32,35 @@ strips_none w = refl
 -- the first n strips of the text are filed, and `rest` is to come
 pub record Along {L : Type 0} (leg : List ℕ → L) (s : State L) (text rest : List ℕ) (n : ℕ) : Type 0 where
   pub strips : List (List ℕ)
-  pub front : Front leg s strips n
-  pub cut : strips ++ in_strips front.left rest ≡ in_strips 128 text
+  pub left : ℕ
+  pub front : Front leg s strips n left
+  pub cut : strips ++ in_strips left rest ≡ in_strips 128 text
 
 module _ {L : Type 0} (leg : List ℕ → L) where
   pub along_none : (s : State L) (text : List ℕ) → Stands leg s (replicate 128 None) → Along leg s text text 0
-  along_none s text stands = record { strips = []; front = front_none leg s stands; cut = refl }
+  along_none s text stands = record { strips = []; left = 128; front = front_none leg s stands; cut = refl }
 
   pub along_all : (s : State L) (text rest : List ℕ) → Along leg s text rest 128 → Stands leg s (map Some (in_strips 128 text))
   along_all s text rest along =
       let slots = along.front.slots in
-      let none : along.front.left ≡ 0 = omega arith in
+      let none : along.left ≡ 0 = omega arith in
       let all : along.strips ≡ in_strips 128 text = sym (append-nil along.strips) ∙ ap (λ l. along.strips ++ l) (sym (strips_none rest)) ∙ ap (λ k. along.strips ++ in_strips k rest) (sym none) ∙ along.cut in
       subst (Stands leg s) (ap (λ k. held along.strips k) none ∙ append-nil (map Some along.strips) ∙ ap (λ l. map Some l) all) along.front.stands
 
   module _ (was : State L) (text rest : List ℕ) (n : ℕ) (along : Along leg was text rest n) where
-    pub along_size : length (held along.strips along.front.left) ≡ 128
-    along_size = front_size leg was along.strips n along.front
+    pub along_size : length (held along.strips along.left) ≡ 128
+    along_size = front_size leg was along.strips n along.left along.front
 
-    pub along_more : (is : State L) → n < 128 → Stands leg is (set (held along.strips along.front.left) n (Some (take 8000 rest))) → Along leg is text (drop 8000 rest) (n + 1)
+    pub along_more : (is : State L) → n < 128 → Stands leg is (set (held along.strips along.left) n (Some (take 8000 rest))) → Along leg is text (drop 8000 rest) (n + 1)
     along_more is in' stands =
         let w = take 8000 rest in
-        let k = along.front.left - 1 in
+        let k = along.left - 1 in
         let slots = along.front.slots in
-        let left : along.front.left ≡ suc k = omega arith in
+        let left : along.left ≡ suc k = omega arith in
         record {
           strips = along.strips ++ w ∷ [];
-          front = front_more leg was is along.strips n w along.front in' stands;
+          left = along.left - 1;
+          front = front_more leg was is along.strips n along.left w along.front in' stands;
           cut = append_assoc along.strips (w ∷ []) (in_strips k (drop 8000 rest)) ∙ ap (λ l. along.strips ++ l) (sym (strips_more k rest)) ∙ ap (λ m. along.strips ++ in_strips m rest) (sym left) ∙ along.cut;
         }
 

@@ -2,9 +2,9 @@
 use Rattle.std.proofs.Common.{◌≡◌, ℕ, Bool, List, [], length, Ok, Err, Option, Result, sym, refl, ap, ◌∙◌, subst}
 use Rattle.fault.specs.declared.Fault.{Fault}
 use Rattle.folding.specs.declared.tally.Tally.{Tally}
-use Rattle.roll.specs.Calls.{Answer, done, tallied, judged, named, refused}
+use Rattle.roll.specs.Calls.{done, tallied, judged, named, refused}
 use Rattle.roll.specs.Law.{Law}
-use Rattle.roll.specs.Refusals.{Call, verdict, totals, culprit}
+use Rattle.roll.specs.Refusals.{verdict, totals, culprit}
 use Rattle.roll.specs.Runs.{opens, judges, adds, blames, apart, Run, opened, turned}
 use Rattle.roll.specs.Stands.{State, state}
 use Rattle.roll.specs.Steps.{Does, Opens}
@@ -49,4 +49,3 @@ module _ {L : Type 0} (leg : List ℕ → L) (M : List ℕ → Type 0) (new : Ro
           answered s.roll
           (subst (λ y. y) (λ i. Run leg M s (questions (l i) (k i) (record { verdict = b; totals = t; culprit = c }) (filings (length legs) (length tallies) ss (opening_of (length legs) (length tallies) done))))
           (goes_on leg M (goes_on leg M (goes_on leg M (filed_run (Ok tt) s ran) (judges (Ok b) judging refl)) (adds (Ok t) adding refl)) (blames (Ok c) blaming refl)))
-

@@ -1,5 +1,5 @@
 -- A text is filed from the first slot on, in strips that are as long as can be. Assumes nothing.
-use Rattle.std.proofs.Common.{◌≡◌, ℕ, suc, ◌+◌, ◌-◌, ◌*◌, ◌<◌, ◌≤◌, List, [], ◌∷◌, ◌++◌, length, set, min, replicate, Some, None, Ok, Err, IfOk, Result, ◌↔◌, sym, refl, ap, ◌∙◌, subst, append_assoc, append-nil, arith, length-append}
+use Rattle.std.proofs.Common.{◌≡◌, ℕ, ◌+◌, ◌-◌, ◌*◌, ◌<◌, ◌≤◌, List, [], ◌∷◌, ◌++◌, length, min, replicate, None, Ok, Err, IfOk, Result, ◌↔◌, sym, refl, ap, ◌∙◌, subst, append_assoc, append-nil, arith, length-append}
 use Rattle.std.proofs.lemmas.Bool.Decides.{Decides-like}
 use Rattle.std.proofs.lemmas.List.{nil_from_length}
 use Rattle.calls.specs.Filled.{Filled}
@@ -19,14 +19,15 @@ use Rattle.roll.proofs.Filling.{filed_in, no_slot, held, together_more, whole_he
 -- the first `slot` slots hold the head of the text, and `rest` is to come
 pub record Along {L : Type 0} (leg : List ℕ → L) (s : State L) (text rest : List ℕ) (slot : ℕ) : Type 0 where
   pub strips : List (List ℕ)
-  pub front : Front leg s strips slot
+  pub left : ℕ
+  pub front : Front leg s strips slot left
   pub joined : together strips ++ rest ≡ text
   pub most : length (together strips) ≤ 1000000 * slot
   pub full : 0 < length rest → length (together strips) ≡ 1000000 * slot
 
 module _ {L : Type 0} (leg : List ℕ → L) where
   pub along_none : (s : State L) (text : List ℕ) → Stands leg s (replicate 128 None) → Along leg s text text 0
-  along_none s text stands = record { strips = []; front = front_none leg s stands; joined = refl; most = omega arith; full = λ some. refl }
+  along_none s text stands = record { strips = []; left = 128; front = front_none leg s stands; joined = refl; most = omega arith; full = λ some. refl }
 
   pub along_all : (s : State L) (text rest : List ℕ) (slot : ℕ) → length rest ≡ 0 → Along leg s text rest slot → (length text ≤ room) × Filled leg s text
   along_all s text rest slot end along =
@@ -34,11 +35,11 @@ module _ {L : Type 0} (leg : List ℕ → L) where
       let long = ap length all in
       let most = along.most in
       let slots = along.front.slots in
-      (omega arith, record { plain = held along.strips along.front.left; stands = along.front.stands; slots = front_size leg s along.strips slot along.front; holds = whole_held along.strips along.front.left ∙ all })
+      (omega arith, record { plain = held along.strips along.left; stands = along.front.stands; slots = front_size leg s along.strips slot along.left along.front; holds = whole_held along.strips along.left ∙ all })
 
   module _ (M : List ℕ → Type 0) (was is : State L) (text rest : List ℕ) (slot : ℕ) (along : Along leg was text rest slot) where
-    count : length (held along.strips along.front.left) ≡ 128
-    count = front_size leg was along.strips slot along.front
+    count : length (held along.strips along.left) ≡ 128
+    count = front_size leg was along.strips slot along.left along.front
 
     pub along_more : (w later : List ℕ) {strip : Strip L} (t : Tally) → rest ≡ w ++ later → length w ≡ min (length rest) 1000000 → FedAtOnce leg w strip → Files leg M was slot strip (Ok t) is → Along leg is text later (slot + 1)
     along_more w later t parts long fed filed =
@@ -50,7 +51,8 @@ module _ {L : Type 0} (leg : List ℕ → L) where
         let full = along.full in
         record {
           strips = along.strips ++ w ∷ [];
-          front = front_more leg was is along.strips slot w along.front (subst (λ k. slot < k) count in'.0) in'.1;
+          left = along.left - 1;
+          front = front_more leg was is along.strips slot along.left w along.front (subst (λ k. slot < k) count in'.0) in'.1;
           joined = ap (λ l. l ++ later) joined ∙ append_assoc (together along.strips) w later ∙ ap (λ l. together along.strips ++ l) (sym parts) ∙ along.joined;
           most = omega arith;
           full = λ some. let before = full (omega arith) in omega arith;

@@ -87,10 +87,10 @@ impl<'a> SetMachine<'a> {
             let number = SetNo::nth(index);
             let from = at.to(number);
             if !walked[usize::from(from)] {
-                walks.set(from, self.walk(from, text));
+                walks.send(from, self.walk(from, text));
                 walked[usize::from(from)] = true;
             }
-            map.set(number, walks.to(from));
+            map.send(number, walks.to(from));
         }
         map
     }
@@ -116,7 +116,7 @@ impl Folding for SetMachine<'_> {
         let mut map = *at;
         for s in 0..self.count {
             let number = SetNo::nth(s);
-            map.set(number, self.next(at.to(number), c));
+            map.send(number, self.next(at.to(number), c));
         }
         map
     }

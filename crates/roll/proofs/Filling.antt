@@ -59,29 +59,27 @@ whole_held (w ∷ ts) n = ap (λ l. w ++ l) (whole_held ts n)
 pub length_held : (ts : List (List ℕ)) (n : ℕ) → length (held ts n) ≡ length ts + n
 length_held ts n = length-append (map Some ts) (replicate {A = Option (List ℕ)} n None) ∙ ap (λ k. k + length (replicate {A = Option (List ℕ)} n None)) (length-map ts Some) ∙ ap (λ k. length ts + k) (length-replicate {A = Option (List ℕ)} n None)
 
--- the strips ts fill the first n of 128 slots
-pub record Front {L : Type 0} (leg : List ℕ → L) (s : State L) (ts : List (List ℕ)) (n : ℕ) : Type 0 where
-  pub left : ℕ
+-- the strips ts fill the first n of 128 slots, and so many are left
+pub record Front {L : Type 0} (leg : List ℕ → L) (s : State L) (ts : List (List ℕ)) (n left : ℕ) : Type 0 where
   pub are : length ts ≡ n
   pub slots : n + left ≡ 128
   pub stands : Stands leg s (held ts left)
 
 module _ {L : Type 0} (leg : List ℕ → L) where
-  pub front_none : (s : State L) → Stands leg s (replicate 128 None) → Front leg s [] 0
-  front_none s stands = record { left = 128; are = refl; slots = refl; stands = stands }
+  pub front_none : (s : State L) → Stands leg s (replicate 128 None) → Front leg s [] 0 128
+  front_none s stands = record { are = refl; slots = refl; stands = stands }
 
-  pub front_size : (s : State L) (ts : List (List ℕ)) (n : ℕ) (front : Front leg s ts n) → length (held ts front.left) ≡ 128
-  front_size s ts n front = length_held ts front.left ∙ ap (λ k. k + front.left) front.are ∙ front.slots
+  pub front_size : (s : State L) (ts : List (List ℕ)) (n left : ℕ) → Front leg s ts n left → length (held ts left) ≡ 128
+  front_size s ts n left front = length_held ts left ∙ ap (λ k. k + left) front.are ∙ front.slots
 
-  pub front_more : (was is : State L) (ts : List (List ℕ)) (n : ℕ) (w : List ℕ) (front : Front leg was ts n) → n < 128 → Stands leg is (set (held ts front.left) n (Some w)) → Front leg is (ts ++ w ∷ []) (n + 1)
-  front_more was is ts n w front in' stands =
-      let k = front.left - 1 in
+  pub front_more : (was is : State L) (ts : List (List ℕ)) (n left : ℕ) (w : List ℕ) → Front leg was ts n left → n < 128 → Stands leg is (set (held ts left) n (Some w)) → Front leg is (ts ++ w ∷ []) (n + 1) (left - 1)
+  front_more was is ts n left w front in' stands =
+      let k = left - 1 in
       let are = front.are in
       let slots = front.slots in
-      let left : front.left ≡ suc k = omega arith in
-      let filled = ap (λ m. set (held ts m) n (Some w)) left ∙ ap (λ m. set (held ts (suc k)) m (Some w)) (sym are) ∙ held_more ts k w in
+      let more : left ≡ suc k = omega arith in
+      let filled = ap (λ m. set (held ts m) n (Some w)) more ∙ ap (λ m. set (held ts (suc k)) m (Some w)) (sym are) ∙ held_more ts k w in
       record {
-        left = k;
         are = length-append ts (w ∷ []) ∙ ap (λ m. m + 1) are;
         slots = omega arith;
         stands = subst (Stands leg is) filled stands;

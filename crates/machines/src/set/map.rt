@@ -30,7 +30,7 @@ impl SetMap {
     }
 
     // Sends one set elsewhere.
-    pub(crate) fn set(&mut self, number: SetNo, to: SetNo)
+    pub(crate) fn send(&mut self, number: SetNo, to: SetNo)
         ensures value { self.new ≡ record { to = slice_set self.old.to number to } }
     {
         self.to[usize::from(number)] = to;

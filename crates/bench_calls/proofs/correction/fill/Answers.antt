@@ -18,7 +18,7 @@ loop-slot-preserved g c =
     let leg = g.M.Folding.leg in
     let was = with c.loop-slot.roll c.loop-slot.lent in
     let is = with c.file.new.roll c.file.new.lent in
-    let held' = held along.strips along.front.left in
+    let held' = held along.strips along.left in
     let put = c.in_ok-file.ensures.puts held' (subst (λ m. Stands (leg m.now) was held') (sym still.machine) along.front.stands) in
     let stands = subst (λ m. Stands (leg m.now) is (set held' c.loop-slot.slot (Some (take 8000 rest)))) still.machine put.1 in
     let left = take_all (length rest - c.min.result) (drop c.min.result rest) (let long = length-drop c.min.result rest in omega arith) ∙ ap (λ n. drop n rest) c.min.ensures ∙ drop_min 8000 rest in (
@@ -31,7 +31,7 @@ returns-in_err-file-clause-filled g c =
     let along = c.loop-slot.invariant.0 in
     let still = c.loop-slot.invariant.1 in
     let was = with c.loop-slot.roll c.loop-slot.lent in
-    let held' = held along.strips along.front.left in
+    let held' = held along.strips along.left in
     let put = c.in_err-file.ensures.puts held' (subst (λ m. Stands (g.M.Folding.leg m.now) was held') (sym still.machine) along.front.stands) in
     let size = along_size _ was c.args.text.now c.loop-slot.rest.now c.loop-slot.slot along in
     let in' = c.loop-slot-test.true in

@@ -21,14 +21,14 @@ loop-index-preserved c =
     let known : Walked m.count m.moves.now text c.if-not-walked-from.walks c.if-not-walked-from.walked × (get_or c.if-not-walked-from.walked from false ≡ true) =
     elim c.if-not-walked-from.branch [
       | then-not-walked-from w ↦
-          walked_more m.count m.moves.now text c.loop-index.walks c.if-not-walked-from.walks c.loop-index.walked c.if-not-walked-from.walked from w.from-then-not-walked-from.result c.loop-index.invariant.1 w.from-then-not-walked-from.ensures.0 w.walk.result (omega arith) w.walk.ensures.value (w.walks-is ∙ w.set.ensures.value) w.walked-is
+          walked_more m.count m.moves.now text c.loop-index.walks c.if-not-walked-from.walks c.loop-index.walked c.if-not-walked-from.walked from w.from-then-not-walked-from.result c.loop-index.invariant.1 w.from-then-not-walked-from.ensures.0 w.walk.result (omega arith) w.walk.ensures.value (w.walks-is ∙ w.send.ensures.value) w.walked-is
       | else-not-walked-from w ↦
           walked_same m.count m.moves.now text c.loop-index.walks c.if-not-walked-from.walks c.loop-index.walked c.if-not-walked-from.walked from c.from.result c.loop-index.invariant.1 c.from.ensures.0 w.if-not-walked-from.false w.walks-is w.walked-is
     ]
     in (
-      sent_more m.count m.moves.now text c.args.at.now c.loop-index.map c.set-in-loop-index.new.self c.loop-index.index c.nth-number.result from c.to.result c.loop-index.invariant.0 (omega arith) number c.to-from.ensures.value
+      sent_more m.count m.moves.now text c.args.at.now c.loop-index.map c.send-in-loop-index.new.self c.loop-index.index c.nth-number.result from c.to.result c.loop-index.invariant.0 (omega arith) number c.to-from.ensures.value
           (λ low. c.to.ensures.value ∙ known.0.right from known.1 low)
-          c.set-in-loop-index.ensures.value,
+          c.send-in-loop-index.ensures.value,
       known.0,
     )
 

@@ -8,9 +8,9 @@ loop-s-preserved c =
     let m = c.args.self.now in
     let few = m.simulates.1 in
     let number : c.nth-number.result ≡ c.loop-s.s = (let e = c.nth-number.ensures.value in omega arith) in
-    sent_more m.count m.moves.now (c.args.c ∷ []) c.args.at.now c.loop-s.map c.set.new.self c.loop-s.s c.nth-number.result c.to.result c.next.result c.loop-s.invariant (omega arith) number c.to.ensures.value
+    sent_more m.count m.moves.now (c.args.c ∷ []) c.args.at.now c.loop-s.map c.send.new.self c.loop-s.s c.nth-number.result c.to.result c.next.result c.loop-s.invariant (omega arith) number c.to.ensures.value
     (λ low. c.next.ensures.value low ∙ sym (led_one m.moves.now c.args.c c.to.result))
-    c.set.ensures.value
+    c.send.ensures.value
 
 pub returns : goal.returns
 returns c =
