@@ -19,7 +19,7 @@ static const Case cases[CASES] = {
 
 static const uint8_t *bytes_of(const char *text) { return (const uint8_t *)text; }
 
-// Each call answers whether all of its way was gone.
+// Each answers whether the call went all the way.
 
 static bool reads(const Case *c) { return yorvuste_read(bytes_of(c->pattern), strlen(c->pattern)).refusal == 0; }
 
