@@ -7,7 +7,8 @@
  * and `into` must not overlap `input`. Nothing else is asked: a call answers whatever the bytes are.
  *
  * yorvuste_check and yorvuste_judge want up to 2 MB of stack, the more the deeper a pattern's parentheses
- * nest, so give a thread that calls them 4 MB. */
+ * nest (bench/README.md has what was measured), so give a thread that calls them 4 MB. yorvuste_read wants
+ * less than 4 KB. */
 #ifndef YORVUSTE_H
 #define YORVUSTE_H
 
@@ -22,6 +23,20 @@ extern "C" {
 /* No answer of yorvuste_check is longer, in bytes. */
 #define YORVUSTE_ROOM 256
 
+/* No pattern of more starts is judged, and no text of more bytes. */
+#define YORVUSTE_MOST_STARTS 96
+#define YORVUSTE_LONGEST_TEXT 128000000
+
+/* The refusals that the structs below can have, by their numbers (docs/refusals.md has all eleven). */
+enum yorvuste_refusal {
+  YORVUSTE_PATTERN_TOO_LONG = 1,
+  YORVUSTE_BADLY_WRITTEN = 2,
+  YORVUSTE_TOO_MANY_PLACES = 3,
+  YORVUSTE_TOO_MANY_SETS = 5,
+  YORVUSTE_TOO_MANY_STARTS = 6,
+  YORVUSTE_NO_SUCH_SLOT = 9
+};
+
 /* Checks a whole bundle (docs/bundles.md has its layout), and answers how many bytes the text of the
  * answer has. The text is what the program rollcheck prints: four lines, or the line of a fault, with no
  * line end and no zero byte after it.
@@ -33,7 +48,7 @@ size_t yorvuste_check(const uint8_t *input, size_t input_size, uint8_t *into, si
 
 /* What reading a pattern comes to. */
 struct yorvuste_reading {
-  /* 0: it was read. Else the number of the refusal: 1, 2 or 3 (docs/refusals.md). */
+  /* 0: it was read. Else YORVUSTE_PATTERN_TOO_LONG, YORVUSTE_BADLY_WRITTEN or YORVUSTE_TOO_MANY_PLACES. */
   uint8_t refusal;
   /* How many places the pattern has; 0 where it is refused. */
   uint8_t places;
@@ -46,8 +61,9 @@ struct yorvuste_reading yorvuste_read(const uint8_t *pattern, size_t pattern_siz
 
 /* What a text comes to under a pattern. */
 struct yorvuste_judgement {
-  /* 0: it was judged. Else the number of the refusal: 1, 2 or 3 of the pattern; 5, it has more than 64
-   * sets; 6, it has more than 96 starts; 9, the text has more than 128,000,000 bytes. */
+  /* 0: it was judged. Else one of the refusals of reading its pattern, or YORVUSTE_TOO_MANY_SETS, the
+   * pattern has more than 64; YORVUSTE_TOO_MANY_STARTS, it has more than YORVUSTE_MOST_STARTS; or
+   * YORVUSTE_NO_SUCH_SLOT, which means here that the text has more than YORVUSTE_LONGEST_TEXT bytes. */
   uint8_t refusal;
   /* Whether the text follows the pattern; false where it is refused. */
   bool verdict;

@@ -12,55 +12,83 @@ struct bytes {
   size_t size;
 };
 
-static struct bytes all_of(FILE *file) {
-  struct bytes bytes = {malloc(1), 0};
-  size_t room = 1, got;
-  while (bytes.at && (got = fread(bytes.at + bytes.size, 1, room - bytes.size, file)) > 0) {
+static void fail(const char *what) {
+  perror(what);
+  exit(1);
+}
+
+static struct bytes all_of(FILE *file, const char *name) {
+  size_t room = 4096, got;
+  struct bytes bytes = {malloc(room), 0};
+  if (!bytes.at) fail(name);
+  while ((got = fread(bytes.at + bytes.size, 1, room - bytes.size, file)) > 0) {
     bytes.size += got;
-    if (bytes.size == room) bytes.at = realloc(bytes.at, room *= 2);
+    if (bytes.size < room) continue;
+    uint8_t *larger = realloc(bytes.at, room *= 2);
+    if (!larger) fail(name);
+    bytes.at = larger;
   }
-  if (!bytes.at || ferror(file)) {
-    fputs("cannot read\n", stderr);
-    exit(1);
-  }
+  if (ferror(file)) fail(name);
   return bytes;
 }
 
 static struct bytes file_of(const char *name) {
   FILE *file = fopen(name, "rb");
-  if (!file) {
-    perror(name);
-    exit(1);
-  }
-  struct bytes bytes = all_of(file);
+  if (!file) fail(name);
+  struct bytes bytes = all_of(file, name);
   fclose(file);
   return bytes;
 }
 
 /* Which layer a refusal of these calls comes from. */
 static const char *layer(uint8_t refusal) {
-  return refusal <= 3 ? "pattern" : refusal <= 6 ? "build" : "roll";
+  switch (refusal) {
+  case YORVUSTE_PATTERN_TOO_LONG:
+  case YORVUSTE_BADLY_WRITTEN:
+  case YORVUSTE_TOO_MANY_PLACES:
+    return "pattern";
+  case YORVUSTE_TOO_MANY_SETS:
+  case YORVUSTE_TOO_MANY_STARTS:
+    return "build";
+  default:
+    return "roll";
+  }
 }
 
-static int refused(uint8_t refusal, size_t place) {
+static void refused(uint8_t refusal, size_t place) {
   printf("refused %u layer %s place %zu\n", refusal, layer(refusal), place);
-  return 0;
+}
+
+static void check(struct bytes bundle) {
+  uint8_t text[YORVUSTE_ROOM];
+  size_t size = yorvuste_check(bundle.at, bundle.size, text, sizeof text);
+  if (size > sizeof text) {
+    fputs("an answer is longer than YORVUSTE_ROOM\n", stderr);
+    exit(1);
+  }
+  printf("%.*s\n", (int)size, (const char *)text);
+}
+
+static void judge(struct bytes pattern, struct bytes text) {
+  struct yorvuste_reading reading = yorvuste_read(pattern.at, pattern.size);
+  if (reading.refusal) {
+    refused(reading.refusal, reading.place);
+    return;
+  }
+  printf("places %u\n", reading.places);
+  struct yorvuste_judgement judgement = yorvuste_judge(pattern.at, pattern.size, text.at, text.size);
+  if (judgement.refusal) refused(judgement.refusal, judgement.place);
+  else printf("verdict %s\nbytes %u\nlines %u\n", judgement.verdict ? "yes" : "no", judgement.bytes, judgement.lines);
 }
 
 int main(int count, char **words) {
-  if (count != 3) {
-    struct bytes bundle = all_of(stdin);
-    uint8_t text[YORVUSTE_ROOM];
-    size_t size = yorvuste_check(bundle.at, bundle.size, text, sizeof text);
-    printf("%.*s\n", (int)size, (const char *)text);
-    return 0;
+  if (count == 1) {
+    check(all_of(stdin, "standard input"));
+  } else if (count == 3) {
+    judge(file_of(words[1]), file_of(words[2]));
+  } else {
+    fprintf(stderr, "usage: %s [PATTERN TEXT]\n", words[0]);
+    return 2;
   }
-  struct bytes pattern = file_of(words[1]), text = file_of(words[2]);
-  struct yorvuste_reading reading = yorvuste_read(pattern.at, pattern.size);
-  if (reading.refusal) return refused(reading.refusal, reading.place);
-  printf("places %u\n", reading.places);
-  struct yorvuste_judgement judgement = yorvuste_judge(pattern.at, pattern.size, text.at, text.size);
-  if (judgement.refusal) return refused(judgement.refusal, judgement.place);
-  printf("verdict %s\nbytes %u\nlines %u\n", judgement.verdict ? "yes" : "no", judgement.bytes, judgement.lines);
   return 0;
 }

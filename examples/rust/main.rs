@@ -4,7 +4,8 @@
 //!     example PATTERN TEXT       of two files: prints the pattern's places, and what the text comes to under it
 mod yorvuste;
 
-use std::io::Read;
+use std::io::{self, Read};
+use std::process::ExitCode;
 use yorvuste::{Fault, check, judge, read};
 
 fn tell(pattern: &[u8], text: &[u8]) -> Result<(), Fault> {
@@ -15,16 +16,23 @@ fn tell(pattern: &[u8], text: &[u8]) -> Result<(), Fault> {
     Ok(())
 }
 
-fn main() -> std::io::Result<()> {
-    let words: Vec<_> = std::env::args_os().collect();
-    if let [_, pattern, text] = words.as_slice() {
-        if let Err(fault) = tell(&std::fs::read(pattern)?, &std::fs::read(text)?) {
-            println!("{fault}");
+fn main() -> io::Result<ExitCode> {
+    let words: Vec<_> = std::env::args_os().skip(1).collect();
+    match words.as_slice() {
+        [] => {
+            let mut bundle = Vec::new();
+            io::stdin().read_to_end(&mut bundle)?;
+            println!("{}", check(&bundle));
         }
-    } else {
-        let mut bundle = Vec::new();
-        std::io::stdin().read_to_end(&mut bundle)?;
-        println!("{}", check(&bundle));
+        [pattern, text] => {
+            if let Err(fault) = tell(&std::fs::read(pattern)?, &std::fs::read(text)?) {
+                println!("{fault}");
+            }
+        }
+        _ => {
+            eprintln!("usage: example [PATTERN TEXT]");
+            return Ok(ExitCode::from(2));
+        }
     }
-    Ok(())
+    Ok(ExitCode::SUCCESS)
 }

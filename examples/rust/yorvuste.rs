@@ -4,6 +4,9 @@
 use std::fmt;
 
 mod calls {
+    // No answer of `yorvuste_check` is longer, in bytes.
+    pub const YORVUSTE_ROOM: usize = 256;
+
     #[repr(C)]
     pub struct Reading {
         pub refusal: u8,
@@ -57,16 +60,11 @@ pub struct Judgement {
 
 /// The text that `rollcheck` prints of a bundle.
 pub fn check(input: &[u8]) -> String {
-    let mut text = Vec::new();
-    loop {
-        // SAFETY: two slices, which are never null, and do not overlap.
-        let wanted = unsafe { calls::yorvuste_check(input.as_ptr(), input.len(), text.as_mut_ptr(), text.len()) };
-        if wanted <= text.len() {
-            text.truncate(wanted);
-            return String::from_utf8(text).expect("letters, digits and line ends");
-        }
-        text.resize(wanted, 0);
-    }
+    let mut text = vec![0; calls::YORVUSTE_ROOM];
+    // SAFETY: two slices, which are never null, and do not overlap.
+    let size = unsafe { calls::yorvuste_check(input.as_ptr(), input.len(), text.as_mut_ptr(), text.len()) };
+    text.truncate(size);
+    String::from_utf8(text).expect("letters, digits and line ends")
 }
 
 /// How many places a pattern has.
