@@ -1,6 +1,6 @@
 /* Yorvuste from C: whether a text follows a pattern, and how long it is. docs/calls.md says more.
  *
- * Link with libcalls.a, which `rt lib` in crates/calls makes. No call allocates, keeps anything, or
+ * Link with libyorvuste.a, which `rt lib` in crates/yorvuste makes. No call allocates, keeps anything, or
  * prints; calls may overlap, in different threads.
  *
  * Bytes are passed as a pointer and a size. The pointer must not be NULL, not even where the size is 0,

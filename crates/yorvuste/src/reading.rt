@@ -1,5 +1,5 @@
 // What reading a pattern comes to, in numbers.
-ghost use Rattle.calls.specs.Readings.{Reads};
+ghost use Rattle.yorvuste.specs.Readings.{Reads};
 
 use pattern::Pattern;
 

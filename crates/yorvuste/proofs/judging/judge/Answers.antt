@@ -3,8 +3,8 @@ use Rattle.std.proofs.lemmas.List.{length-replicate}
 use Rattle.std.proofs.lemmas.Result.{err_from_is_err_and}
 use Rattle.law.proofs.Order.{unread, under, no_sets, with_sets}
 use Rattle.law.specs.Order.{AfterSets}
-use Rattle.calls.specs.Judgements.{Started}
-use Rattle.calls.proofs.judging.judge.Goals as goal
+use Rattle.yorvuste.specs.Judgements.{Started}
+use Rattle.yorvuste.proofs.judging.judge.Goals as goal
 
 pub returns-in_err-read : goal.returns-in_err-read
 returns-in_err-read c =

@@ -2,9 +2,9 @@
 use Rattle.std.proofs.Common.{◌≡◌, ℕ, ◌+◌, ◌-◌, ◌*◌, ◌<◌, ◌≤◌, List, [], ◌∷◌, ◌++◌, length, min, replicate, None, Ok, Err, IfOk, Result, ◌↔◌, sym, refl, ap, ◌∙◌, subst, append_assoc, append-nil, arith, length-append}
 use Rattle.std.proofs.lemmas.Bool.Decides.{Decides-like}
 use Rattle.std.proofs.lemmas.List.{nil_from_length}
-use Rattle.calls.specs.Filled.{Filled}
-use Rattle.calls.specs.Judgements.{Told, room}
-use Rattle.calls.specs.declared.judging.Answers.{Answers}
+use Rattle.yorvuste.specs.Filled.{Filled}
+use Rattle.yorvuste.specs.Judgements.{Told, room}
+use Rattle.yorvuste.specs.declared.judging.Answers.{Answers}
 use Rattle.fault.specs.declared.Fault.{Fault}
 use Rattle.fault.specs.declared.Refusal.TheVariants.{NoSuchSlot}
 use Rattle.folding.specs.Texts.{Bytes, together}

@@ -3,9 +3,9 @@ use Rattle.std.proofs.lemmas.List.{length-replicate}
 use Rattle.std.proofs.lemmas.Result.{err_from_is_err_and}
 use Rattle.law.proofs.Order.{no_starts, with_starts}
 use Rattle.notation.specs.Meaning.{Matches}
-use Rattle.calls.specs.Judgements.{Told}
-use Rattle.calls.proofs.Filling.{told_same}
-use Rattle.calls.proofs.judging.from_starts.Goals as goal
+use Rattle.yorvuste.specs.Judgements.{Told}
+use Rattle.yorvuste.proofs.Filling.{told_same}
+use Rattle.yorvuste.proofs.judging.from_starts.Goals as goal
 
 pub returns-in_err-count : goal.returns-in_err-count
 returns-in_err-count c =

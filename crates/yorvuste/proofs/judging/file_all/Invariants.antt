@@ -1,7 +1,7 @@
 use Rattle.std.proofs.Common.{length}
-use Rattle.calls.proofs.Filling.{Along}
+use Rattle.yorvuste.proofs.Filling.{Along}
 use Rattle.roll.specs.Lending.{StillLent, with}
-use Rattle.calls.proofs.judging.file_all.Given as goal
+use Rattle.yorvuste.proofs.judging.file_all.Given as goal
 
 abbrev pub invariant-loop-rest : goal.invariant-loop-rest
 invariant-loop-rest g l = Along (g.M.Folding.leg l.initial.lent.machine.now) (with l.roll l.lent) l.fn.text l.rest l.slot × StillLent l.initial.lent l.lent

@@ -2,8 +2,8 @@
 // its strips are filed into a roll.
 ghost use Rattle.std.specs.Prelude.{◌≡◌, ◌<◌, ◌≤◌, length, IfOk, MatchResult};
 ghost use Rattle.bundle.specs.Outcome.{opened};
-ghost use Rattle.calls.specs.Filled.{FilledWith};
-ghost use Rattle.calls.specs.Judgements.{Judges, Numbers, Started, Told, numbers, room};
+ghost use Rattle.yorvuste.specs.Filled.{FilledWith};
+ghost use Rattle.yorvuste.specs.Judgements.{Judges, Numbers, Started, Told, numbers, room};
 ghost use Rattle.fault.specs.declared.Refusal.TheVariants.{NoSuchSlot};
 ghost use Rattle.folding.specs.Texts.{Bytes};
 ghost use Rattle.law.specs.Whole.{OfPattern};

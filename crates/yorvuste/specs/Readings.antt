@@ -4,7 +4,7 @@
 --   refused f   the fault f
 --   Reads w r   r is what reading w comes to
 use Rattle.std.specs.Prelude.{◌≡◌, ℕ, ◌⊎◌, List}
-use Rattle.calls.specs.declared.reading.Reading.{Reading}
+use Rattle.yorvuste.specs.declared.reading.Reading.{Reading}
 use Rattle.fault.specs.Numbers.{number}
 use Rattle.fault.specs.declared.Fault.{Fault}
 use Rattle.notation.specs.Reading.{Granted, Refused}

@@ -1,15 +1,15 @@
 use Rattle.std.proofs.Common.{◌≡◌, ◌<◌, ◌≤◌, length, Ok, Err, MatchResult, min, ◌∙◌, subst, sym, arith}
 use Rattle.std.proofs.lemmas.Bool.{eqb-true, eqb-false}
 use Rattle.std.proofs.lemmas.Result.{err_from_is_err_and}
-use Rattle.calls.specs.Filled.{FilledWith}
-use Rattle.calls.specs.Judgements.{room}
+use Rattle.yorvuste.specs.Filled.{FilledWith}
+use Rattle.yorvuste.specs.Judgements.{room}
 use Rattle.fault.specs.declared.Refusal.TheVariants.{NoSuchSlot}
 use Rattle.roll.specs.Lending.{with}
 use Rattle.roll.specs.Refusals.{fault as roll_fault}
 use Rattle.roll.specs.Steps.{FedAtOnce, Files}
 use Rattle.roll.proofs.Lending.{not_touched, still_lent}
-use Rattle.calls.proofs.Filling.{along_none, along_all, along_more, along_stop}
-use Rattle.calls.proofs.judging.file_all.Goals as goal
+use Rattle.yorvuste.proofs.Filling.{along_none, along_all, along_more, along_stop}
+use Rattle.yorvuste.proofs.judging.file_all.Goals as goal
 
 pub loop-rest-init : goal.loop-rest-init
 loop-rest-init g c = (along_none _ _ _ c.requires.empty, not_touched)

@@ -3,9 +3,9 @@
 #![tactic(auto)]
 
 ghost use Rattle.std.specs.Prelude.{◌≤◌};
-ghost use Rattle.calls.specs.Judgements.{Numbers};
-ghost use Rattle.calls.specs.Readings.{Reads};
-ghost use Rattle.calls.specs.Texts.{Answered};
+ghost use Rattle.yorvuste.specs.Judgements.{Numbers};
+ghost use Rattle.yorvuste.specs.Readings.{Reads};
+ghost use Rattle.yorvuste.specs.Texts.{Answered};
 
 mod judging;
 mod reading;

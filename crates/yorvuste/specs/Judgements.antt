@@ -8,8 +8,8 @@
 --   Numbers p w j  j is the outcome of p and w in numbers
 use Rattle.std.specs.Prelude.{◌≡◌, ℕ, ◌*◌, ◌<◌, ◌≤◌, List, length, false, Decides, Ok, Err, Result, MatchResult}
 use Rattle.bundle.specs.Checks.{rows}
-use Rattle.calls.specs.declared.judging.Answers.{Answers}
-use Rattle.calls.specs.declared.judging.Judgement.{Judgement}
+use Rattle.yorvuste.specs.declared.judging.Answers.{Answers}
+use Rattle.yorvuste.specs.declared.judging.Judgement.{Judgement}
 use Rattle.fault.specs.Numbers.{number}
 use Rattle.fault.specs.declared.Fault.{Fault}
 use Rattle.fault.specs.declared.Refusal.TheVariants.{NoSuchSlot}

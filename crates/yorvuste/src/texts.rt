@@ -3,7 +3,7 @@
 ghost use Rattle.std.specs.Prelude.{◌≡◌, ◌+◌, ◌≤◌, ◌++◌, decimal, length};
 ghost use Rattle.arrayvec.specs.ArrayString.{array_string_len};
 ghost use Rattle.bundle.specs.Lines.{answer, lines};
-ghost use Rattle.calls.specs.Texts.{Answered, Laid};
+ghost use Rattle.yorvuste.specs.Texts.{Answered, Laid};
 ghost use Rattle.fault.specs.Lines.{line, word};
 
 use crate::YORVUSTE_ROOM;
