@@ -85,6 +85,8 @@ impl<T: Assembly> Draft<T> {
     }
 
     // The draft once `sign` has been read. The reader sees to the parentheses and the end itself.
+    // Inlined, what this takes of the stack would be taken again at each level of parentheses.
+    #[inline(never)]
     pub(crate) fn with(&self, sign: Sign) -> Draft<T>
         requires formed { Formed (is_some self.now.last) sign }
         requires inner { is_inner sign ≡ true }
