@@ -18,9 +18,11 @@ use std::test::Fail;
 
 const LONGEST: usize = 4100;
 
-// A text of 512 bytes and more is read in parts.
-const LENGTHS: [usize; 19] = [
-    0, 1, 7, 8, 9, 64, 504, 511, 512, 513, 519, 520, 521, 1023, 1024, 1025, 4095, 4096, 4097,
+// A text of 512 bytes and more is read in parts. By 516 and 517 there is a length for each number that is
+// meant in a case.
+const LENGTHS: [usize; 21] = [
+    0, 1, 7, 8, 9, 64, 504, 511, 512, 513, 516, 517, 519, 520, 521, 1023, 1024, 1025, 4095, 4096,
+    4097,
 ];
 
 // A pattern, and a text that repeats some bytes.
