@@ -88,8 +88,23 @@ fn every_cut<M: Judging>(
     Ok(true)
 }
 
-// The answers of a roll that held other strips before it was opened anew, and others again, of which all
-// but one are corrected, and one is withdrawn and filed again.
+// Files other strips before the roll is opened anew, and others again, of which one is withdrawn.
+fn hold_others<M: Judging>(
+    roll: &mut Roll,
+    lent: &mut LentMut<M>,
+    text: &[u8],
+) -> Result<(), Fault> {
+    let (front, back) = text.split_at(text.len() / 2);
+    let other: &[u8] = b"!\n";
+    roll.open(lent, 4)?;
+    file_all(roll, lent, &[(0, other), (1, text), (2, other), (3, front)])?;
+    roll.open(lent, 4)?;
+    file_all(roll, lent, &[(1, back), (3, other), (0, other), (2, text)])?;
+    roll.withdraw(lent, 2)
+}
+
+// The answers of a roll that held others: all but one are corrected, and the one that was withdrawn is
+// filed again.
 fn after_others<M: Judging>(
     machine: &M,
     legs: &mut [M::Leg],
@@ -101,28 +116,12 @@ fn after_others<M: Judging>(
         tallies: &mut [Tallying.empty(); 8],
     };
     let mut roll = Roll::new::<M, M>();
+    hold_others(&mut roll, &mut lent, text)?;
     let (front, back) = text.split_at(text.len() / 2);
     let (first, second) = front.split_at(front.len() / 2);
     let (third, last) = back.split_at(back.len() / 2);
-    let other: &[u8] = b"!\n";
-    roll.open(&mut lent, 4)?;
-    file_all(
-        &mut roll,
-        &mut lent,
-        &[(0, other), (1, text), (2, other), (3, front)],
-    )?;
-    roll.open(&mut lent, 4)?;
-    file_all(
-        &mut roll,
-        &mut lent,
-        &[(1, back), (3, other), (0, other), (2, text)],
-    )?;
-    roll.withdraw(&mut lent, 2)?;
-    file_all(
-        &mut roll,
-        &mut lent,
-        &[(0, first), (3, last), (2, third), (1, second)],
-    )?;
+    let strips = [(0, first), (3, last), (2, third), (1, second)];
+    file_all(&mut roll, &mut lent, &strips)?;
     let lent = lent.shared();
     Ok(Report {
         verdict: roll.verdict(&lent)?,

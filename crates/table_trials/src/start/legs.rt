@@ -18,9 +18,11 @@ use std::test::Fail;
 
 const LONGEST: usize = 4100;
 
-// A text of 512 bytes and more is read in parts.
-const LENGTHS: [usize; 19] = [
-    0, 1, 7, 8, 9, 64, 504, 511, 512, 513, 519, 520, 521, 1023, 1024, 1025, 4095, 4096, 4097,
+// A text of 512 bytes and more is read in parts. By 516 and 517 there is a length for each number that is
+// meant in a case.
+const LENGTHS: [usize; 21] = [
+    0, 1, 7, 8, 9, 64, 504, 511, 512, 513, 516, 517, 519, 520, 521, 1023, 1024, 1025, 4095, 4096,
+    4097,
 ];
 
 // A pattern, and a text that repeats some bytes.
@@ -154,49 +156,50 @@ fn all_agree(case: &Case) -> Result<bool, Fault> {
     Ok(true)
 }
 
+const CASES: [Case<'static>; 6] = [
+    Case {
+        pattern: ".*",
+        repeated: b"ab\n",
+        meant: &[0, 1, 2],
+        loses: false,
+    },
+    Case {
+        pattern: "(abc)*",
+        repeated: b"abc",
+        meant: &[0],
+        loses: true,
+    },
+    Case {
+        pattern: "(a|b)*abb",
+        repeated: b"aababbb",
+        meant: &[6],
+        loses: true,
+    },
+    // None of the marks stands for an a.
+    Case {
+        pattern: ".*a.{4}",
+        repeated: b"abcdefg",
+        meant: &[5],
+        loses: false,
+    },
+    Case {
+        pattern: "(.{7})*",
+        repeated: b"abcdefg",
+        meant: &[0],
+        loses: false,
+    },
+    // More starts than a byte can number: from each of 21 places to each, and two.
+    Case {
+        pattern: "(abcdefghijklmnopqrstu)*",
+        repeated: b"abcdefghijklmnopqrstu",
+        meant: &[0],
+        loses: true,
+    },
+];
+
 #[test]
 fn long_texts(rt: HostRuntime) -> Result<(), Fail> {
-    let cases = [
-        Case {
-            pattern: ".*",
-            repeated: b"ab\n",
-            meant: &[0, 1, 2],
-            loses: false,
-        },
-        Case {
-            pattern: "(abc)*",
-            repeated: b"abc",
-            meant: &[0],
-            loses: true,
-        },
-        Case {
-            pattern: "(a|b)*abb",
-            repeated: b"aababbb",
-            meant: &[6],
-            loses: true,
-        },
-        // None of the marks stands for an a.
-        Case {
-            pattern: ".*a.{4}",
-            repeated: b"abcdefg",
-            meant: &[5],
-            loses: false,
-        },
-        Case {
-            pattern: "(.{7})*",
-            repeated: b"abcdefg",
-            meant: &[0],
-            loses: false,
-        },
-        // More starts than a byte can number: from each of 21 places to each, and two.
-        Case {
-            pattern: "(abcdefghijklmnopqrstu)*",
-            repeated: b"abcdefghijklmnopqrstu",
-            meant: &[0],
-            loses: true,
-        },
-    ];
-    for case in &cases {
+    for case in &CASES {
         assert!(rt; all_agree(case)?, "at {}", case.pattern);
     }
     Ok(())
