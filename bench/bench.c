@@ -98,12 +98,14 @@ static bool has(int e, const Case *c) {
 
 // ---- all engines answer alike
 
+enum { LONGEST = 2000, TIMES = 3, TOO_MANY_STARTS = 7, NO_SUCH_SLOT = 10 };
+
 static uint8_t letter(const Case *c) {
   return (uint8_t)c->alphabet[chance((uint32_t)strlen(c->alphabet))];
 }
 
-// One in three is letters at random, one in three follows the pattern, and one in three did so but for a byte. One in
-// fifteen is long enough for the eight parts of the start machine.
+// One in three is letters at random, one in three follows the pattern, and one in three did so but for a byte, which is
+// as often one of the last eight as any. One in fifteen is long enough for the eight parts of the start machine.
 static size_t short_text(const Case *c, int i, uint8_t *text) {
   size_t n;
   if (i % 3 == 0) {
@@ -111,24 +113,62 @@ static size_t short_text(const Case *c, int i, uint8_t *text) {
     for (size_t k = 0; k < n; k++) text[k] = letter(c);
     return n;
   }
-  n = fill(c, text, i % 10 ? 120 : 600 + chance(1400));
-  if (i % 3 == 2 && n) text[chance((uint32_t)n)] = letter(c);
+  n = fill(c, text, i % 10 ? 120 : 600 + chance(LONGEST - 600));
+  if (i % 3 == 2 && n) {
+    size_t at = chance(2) ? chance((uint32_t)n) : n - 1 - chance(n < 8 ? (uint32_t)n : 8);
+    text[at] = letter(c);
+  }
   return n;
+}
+
+static void alike(bool same, const Made *m, const char *engine, int i) {
+  if (same) return;
+  fprintf(stderr, "bench: %s answers otherwise than the plain loop at text %d of %s\n", engine, i, m->of->name);
+  exit(1);
+}
+
+// Each engine on the text so many times over. Answers whether it follows the pattern.
+static uint32_t agree_on(const Made *m, int i, const uint8_t *text, size_t n, uint32_t times) {
+  static uint8_t whole[TIMES * LONGEST];
+  for (uint32_t k = 0; k < times; k++) memcpy(whole + k * n, text, n);
+  uint32_t right = by_plain(m, whole, times * n, 1);
+  for (int e = 0; e < ENGINES; e++) {
+    if (!has(e, m->of)) continue;
+    bool counts = engines[e].repeats || engines[e].slow;
+    uint32_t answer = counts ? engines[e].judge(m, text, n, times) : engines[e].judge(m, whole, times * n, 1);
+    alike(answer == right, m, engines[e].name, i);
+  }
+  alike(bench_small_start(m->pattern, m->length, text, n, times) == (m->of->few ? right : TOO_MANY_STARTS), m, "96 rows", i);
+  return right;
+}
+
+static void agree_on_tally(const Made *m, int i, const uint8_t *text, size_t n) {
+  if (!has(ROLL, m->of)) return;
+  uint32_t lines = 0;
+  for (size_t k = 0; k < n; k++) lines += text[k] == '\n';
+  struct yorvuste_judgement j = yorvuste_judge(m->pattern, m->length, text, n);
+  alike(j.bytes == n && j.lines == lines, m, "the tally", i);
+}
+
+// A roll of a short text: it lies in slot 0 alone. Another text is put in its place or after it.
+static void agree_on_correction(const Made *m, int i, const uint8_t *text, size_t n) {
+  static uint8_t whole[2 * LONGEST];
+  size_t slot = chance(2) ? 0 : chance(SLOTS + 8), kept = slot ? n : 0;
+  memcpy(whole, text, kept);
+  size_t size = short_text(m->of, i + (int)chance(3), whole + kept);
+  uint32_t right = slot < SLOTS ? by_plain(m, whole, kept + size, 1) : NO_SUCH_SLOT;
+  alike(bench_correct(m->pattern, m->length, text, n, slot, whole + kept, size, chance(3)) == right, m, "a corrected roll", i);
 }
 
 // Answers how many texts follow the pattern.
 static int agree(const Made *m) {
-  static uint8_t text[4096];
+  static uint8_t text[LONGEST];
   int yes = 0;
   for (int i = 0; i < TEXTS; i++) {
     size_t n = short_text(m->of, i, text);
-    uint32_t right = by_plain(m, text, n, 1);
-    yes += (int)right;
-    for (int e = 0; e < ENGINES; e++) {
-      if (!has(e, m->of) || engines[e].judge(m, text, n, 1) == right) continue;
-      fprintf(stderr, "bench: %s answers otherwise than the plain loop at text %d of %s\n", engines[e].name, i, m->of->name);
-      exit(1);
-    }
+    yes += (int)agree_on(m, i, text, n, 1 + chance(TIMES));
+    agree_on_tally(m, i, text, n);
+    agree_on_correction(m, i, text, n);
   }
   return yes;
 }
@@ -153,6 +193,7 @@ static void speeds(const Case *c, const Turns *fastest, uint32_t more) {
     if (!has(e, c)) {
       printf("%s\n", e == RE2 ? "not installed" : "refused: more than 96 starts");
     } else if (engines[e].repeats) {
+      must(fastest[e].again > fastest[e].once, "a text over and over is read as fast as once");
       double alone = (fastest[e].again - fastest[e].once) / more;
       printf("%7.2f   with its building %.2f\n", yardstick / alone, yardstick / fastest[e].once);
     } else {

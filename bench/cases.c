@@ -111,13 +111,15 @@ static size_t letters(uint8_t *to) {
 static size_t record(uint8_t *to) {
   size_t n = (size_t)sprintf((char *)to, "%c", (char)('A' + chance(26)));
   for (uint32_t i = chance(9); i > 0; i--) to[n++] = (uint8_t)('a' + chance(26));
-  return n + (size_t)sprintf((char *)to + n, ",%" PRIu32 ",%" PRIu32 "\n", chance(100000), chance(100));
+  uint32_t first = chance(100000), second = chance(100);
+  return n + (size_t)sprintf((char *)to + n, ",%" PRIu32 ",%" PRIu32 "\n", first, second);
 }
 
 static size_t dated_record(uint8_t *to) {
   static const char *const kinds[] = {"INFO", "WARN", "ERROR"};
+  uint32_t year = chance(100), month = 1 + chance(12), day = 1 + chance(28), kind = chance(3), pieces = chance(1000), shelf = chance(50);
   return (size_t)sprintf((char *)to, "20%02" PRIu32 "-%02" PRIu32 "-%02" PRIu32 " %s: %" PRIu32 " pieces left on shelf %" PRIu32 "\n",
-                         chance(100), 1 + chance(12), 1 + chance(28), kinds[chance(3)], chance(1000), chance(50));
+                         year, month, day, kinds[kind], pieces, shelf);
 }
 
 size_t fill(const Case *c, uint8_t *text, size_t most) {

@@ -6,9 +6,9 @@
  * Bytes are passed as a pointer and a size. The pointer must not be NULL, not even where the size is 0,
  * and `into` must not overlap `input`. Nothing else is asked: a call answers whatever the bytes are.
  *
- * yorvuste_check and yorvuste_judge want up to 2 MB of stack, the more the deeper a pattern's parentheses
- * nest (bench/README.md has what was measured), so give a thread that calls them 4 MB. yorvuste_read wants
- * less than 4 KB. */
+ * yorvuste_check and yorvuste_judge want up to 1 MB of stack, the more the deeper a pattern's parentheses
+ * nest (bench/README.md has what was measured), so give a thread that calls them 2 MB. yorvuste_read wants
+ * less than 5 KB. */
 #ifndef YORVUSTE_H
 #define YORVUSTE_H
 

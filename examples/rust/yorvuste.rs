@@ -1,6 +1,6 @@
 //! Yorvuste from Rust: safe functions over the calls that include/yorvuste.h declares.
 //!
-//! A thread other than the main one should have 4 MB of stack (docs/calls.md).
+//! A call wants up to 1 MB of stack (docs/calls.md).
 use std::fmt;
 
 mod calls {

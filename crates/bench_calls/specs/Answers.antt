@@ -14,30 +14,27 @@ use Rattle.fault.specs.declared.Refusal.TheVariants.{NoSuchSlot}
 use Rattle.folding.specs.Texts.{together}
 use Rattle.roll.specs.Refusals.{fault}
 
-abbrev pub Outcome : Type 0
-Outcome = Result Bool Fault
-
 unfoldable pub over : ℕ → List ℕ → List ℕ
 over zero w = []
 over (suc n) w = over n w ++ w
 
-abbrev pub Verdict : (List ℕ → Type 0) → List ℕ → Outcome → Type 0
+abbrev pub Verdict : (List ℕ → Type 0) → List ℕ → Result Bool Fault → Type 0
 Verdict M w r = MatchResult r (λ b. Decides b (M w)) (λ f. ⊥)
 
 unfoldable pub in_strips : ℕ → List ℕ → List (List ℕ)
 in_strips zero w = []
 in_strips (suc n) w = take 8000 w ∷ in_strips n (drop 8000 w)
 
-abbrev pub Corrected : (List ℕ → Type 0) → List ℕ → ℕ → List ℕ → Outcome → Type 0
+abbrev pub Corrected : (List ℕ → Type 0) → List ℕ → ℕ → List ℕ → Result Bool Fault → Type 0
 Corrected M w s v r =
     MatchResult r
     (λ b. (s < 128) × Decides b (M (together (slice_set (in_strips 128 w) s (take 8000 v)))))
     (λ f. (128 ≤ s) × (f ≡ fault NoSuchSlot s))
 
-abbrev pub code : Outcome → ℕ
+abbrev pub code : Result Bool Fault → ℕ
 code (Ok false) = 0
 code (Ok true) = 1
 code (Err f) = number f.refusal + 1
 
-abbrev pub Says : (Outcome → Type 0) → ℕ → Type 0
-Says A n = (r : Outcome) × A r × (n ≡ code r)
+abbrev pub Says : (Result Bool Fault → Type 0) → ℕ → Type 0
+Says A n = (r : Result Bool Fault) × A r × (n ≡ code r)

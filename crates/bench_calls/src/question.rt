@@ -1,6 +1,6 @@
 // What the measuring program asks of a pattern's start machine.
-ghost use Rattle.std.specs.Prelude.{ℕ, ◌↔◌, List};
-ghost use Rattle.bench_calls.specs.Answers.{Outcome};
+ghost use Rattle.std.specs.Prelude.{ℕ, ◌↔◌, Bool, List, Result};
+ghost use Rattle.fault.specs.declared.Fault.{Fault};
 ghost use Rattle.folding.specs.Texts.{Bytes};
 ghost use Rattle.notation.specs.Expressions.{Regex};
 ghost use Rattle.notation.specs.Meaning.{Matches};
@@ -12,7 +12,7 @@ use starts::StartMachine;
 
 // A question that the machine's set of texts answers, so that it has one answer under an expression.
 pub(crate) trait Question {
-    ghost comes: { Self → Regex → Outcome → Type 0 };
+    ghost comes: { Self → Regex → Result Bool Fault → Type 0 };
 
     fn put<'m>(&self, machine: &StartMachine<'m, SetMachine<'m>>) -> Result<bool, Fault>
         ensures comes { (e : Regex)
