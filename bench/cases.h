@@ -11,7 +11,7 @@ enum { STATES = 64, CASES = 5 };
 
 typedef struct {
   uint16_t moves[STATES * 256];
-  uint32_t rows[STATES * 256]; // the same moves, a state being the place of its row
+  uint32_t rows[STATES * 256]; // the same moves, a state being the offset of its row
   bool accepts[STATES];
 } Table;
 
@@ -29,7 +29,7 @@ void fill_table(const Case *c, Table *table);
 
 bool plain(const Table *table, const uint8_t *text, size_t length);
 
-// The same where a move is to the place of the state's row, which saves a multiplication.
+// The same where a move is to the offset of the state's row, which saves a multiplication.
 bool ahead(const Table *table, const uint8_t *text, size_t length);
 
 // Writes at most `most` bytes of whole pieces, and answers how many.
