@@ -25,67 +25,50 @@ bool ahead(const Table *table, const uint8_t *text, size_t length) {
 }
 
 // Moves from `from` on the bytes `low` to `high`.
-static void arc(Table *table, int from, int low, int high, int to) {
-  for (int c = low; c <= high; c++) table->moves[from * 256 + c] = (uint16_t)to;
+typedef struct {
+  uint8_t from, low, high, to;
+} Arc;
+
+// All else leads to the last state, and nothing out of it. State 0, where texts begin, accepts.
+static void lay(Table *table, int states, const Arc *arcs, size_t count) {
+  for (int at = 0; at < states * 256; at++) table->moves[at] = (uint16_t)(states - 1);
+  for (size_t i = 0; i < count; i++)
+    for (int c = arcs[i].low; c <= arcs[i].high; c++) table->moves[arcs[i].from * 256 + c] = arcs[i].to;
+  table->accepts[0] = true;
 }
 
-static void all_to(Table *table, int states, int to) {
-  for (int s = 0; s < states; s++) arc(table, s, 0, 255, to);
-}
+#define LAY(table, states, arcs) lay(table, states, arcs, sizeof(arcs) / sizeof *(arcs))
 
 static void words(Table *t) {
-  all_to(t, 4, 3);
-  arc(t, 0, 'a', 'a', 1);
-  arc(t, 1, 'b', 'b', 2);
-  arc(t, 2, 'c', 'c', 0);
-  t->accepts[0] = true;
+  static const Arc arcs[] = {{0, 'a', 'a', 1}, {1, 'b', 'b', 2}, {2, 'c', 'c', 0}};
+  LAY(t, 4, arcs);
 }
 
 static void runs(Table *t) {
-  all_to(t, 3, 2);
-  arc(t, 0, 'A', 'B', 1);
-  arc(t, 1, 'A', 'B', 1);
-  arc(t, 1, 'C', 'C', 0);
-  t->accepts[0] = true;
+  static const Arc arcs[] = {{0, 'A', 'B', 1}, {1, 'A', 'B', 1}, {1, 'C', 'C', 0}};
+  LAY(t, 3, arcs);
 }
 
 // A state is which of the last five bytes were an a.
 static void fifth(Table *t) {
   for (int s = 0; s < 32; s++) {
-    arc(t, s, 0, 255, s << 1 & 31);
-    arc(t, s, 'a', 'a', (s << 1 | 1) & 31);
+    for (int c = 0; c < 256; c++) t->moves[s * 256 + c] = (uint16_t)((s << 1 | (c == 'a')) & 31);
     t->accepts[s] = s >> 4 & 1;
   }
 }
 
 static void records(Table *t) {
-  all_to(t, 7, 6);
-  arc(t, 0, 'A', 'Z', 1);
-  arc(t, 1, 'a', 'z', 1);
-  arc(t, 1, ',', ',', 2);
-  arc(t, 2, '0', '9', 3);
-  arc(t, 3, '0', '9', 3);
-  arc(t, 3, ',', ',', 4);
-  arc(t, 4, '0', '9', 5);
-  arc(t, 5, '0', '9', 5);
-  arc(t, 5, '\n', '\n', 0);
-  t->accepts[0] = true;
+  static const Arc arcs[] = {{0, 'A', 'Z', 1}, {1, 'a', 'z', 1}, {1, ',', ',', 2}, {2, '0', '9', 3}, {3, '0', '9', 3},
+                             {3, ',', ',', 4}, {4, '0', '9', 5}, {5, '0', '9', 5}, {5, '\n', '\n', 0}};
+  LAY(t, 7, arcs);
 }
 
 static void dated(Table *t) {
-  static const char shape[] = "dddd-dd-dd ";
-  all_to(t, 16, 15);
-  for (int s = 0; shape[s]; s++) {
-    if (shape[s] == 'd') arc(t, s, '0', '9', s + 1);
-    else arc(t, s, shape[s], shape[s], s + 1);
-  }
-  arc(t, 11, 'A', 'Z', 12);
-  arc(t, 12, 'A', 'Z', 12);
-  arc(t, 12, ':', ':', 13);
-  arc(t, 13, ' ', ' ', 14);
-  arc(t, 14, ' ', '~', 14);
-  arc(t, 14, '\n', '\n', 0);
-  t->accepts[0] = true;
+  static const Arc arcs[] = {{0, '0', '9', 1},   {1, '0', '9', 2},   {2, '0', '9', 3},    {3, '0', '9', 4},  {4, '-', '-', 5},
+                             {5, '0', '9', 6},   {6, '0', '9', 7},   {7, '-', '-', 8},    {8, '0', '9', 9},  {9, '0', '9', 10},
+                             {10, ' ', ' ', 11}, {11, 'A', 'Z', 12}, {12, 'A', 'Z', 12},  {12, ':', ':', 13}, {13, ' ', ' ', 14},
+                             {14, ' ', '~', 14}, {14, '\n', '\n', 0}};
+  LAY(t, 16, arcs);
 }
 
 // ---- pieces of text
