@@ -1,7 +1,7 @@
 -- What the tests on a byte tell of it. Assumes nothing.
 use Rattle.std.proofs.Common.{◌≡◌, ℕ, ◌+◌, ◌-◌, ◌<◌, ◌≤◌, true, cond, ◌&&◌, eqb, leb, sym, ap, ◌∙◌, ⊎_elim, arith}
 use Rattle.std.proofs.lemmas.Bool.{true≢false, eqb-true, le-leb, leb-true, cond_both, cond-true, or_cases, and_parts, and_from}
-use Rattle.notation.specs.Characters.{Kind, bar, times, add, query, open', close', square, unsquare, brace, unbrace, dot, backslash, plain, kind, is_special, escapable, ClassKind, ends, slash, hyphen, barred, itself, class_kind}
+use Rattle.notation.specs.Characters.{Kind, bar, times, add, query, open', close', square, unsquare, brace, unbrace, dot, backslash, plain, kind, is_special, escapable, ClassKind, ends, slash, hyphen, bracket, caret, itself, class_kind}
 use Rattle.notation.specs.Automaton.{CountKind, digit, comma, ended, other, count_kind}
 
 -- the byte of this kind
@@ -55,14 +55,15 @@ abbrev pub InClass : ClassKind → ℕ → Type 0
 InClass ends b = b ≡ 93
 InClass slash b = b ≡ 92
 InClass hyphen b = b ≡ 45
-InClass barred b = Unit {0}
+InClass bracket b = b ≡ 91
+InClass caret b = b ≡ 94
 InClass itself b = Unit {0}
 
 class_cond : (b c : ℕ) (k l : ClassKind) → (b ≡ c → InClass k b) → InClass l b → InClass (cond (eqb b c) k l) b
 class_cond b c k l is rest = cond_both (eqb b c) k l (λ x. InClass x b) (λ e. is (eqb-true b c e)) (λ e. rest)
 
 pub in_class_lem : (b : ℕ) → InClass (class_kind b) b
-in_class_lem b = class_cond b 93 ends _ (λ e. e) (class_cond b 92 slash _ (λ e. e) (class_cond b 45 hyphen _ (λ e. e) (class_cond b 91 barred _ (λ e. tt) (class_cond b 94 barred itself (λ e. tt) tt))))
+in_class_lem b = class_cond b 93 ends _ (λ e. e) (class_cond b 92 slash _ (λ e. e) (class_cond b 45 hyphen _ (λ e. e) (class_cond b 91 bracket _ (λ e. e) (class_cond b 94 caret itself (λ e. e) tt))))
 
 -- the byte of this kind inside a counted repeat
 abbrev pub InCount : CountKind → ℕ → Type 0

@@ -1,132 +1,210 @@
 -- A well-written class is run through to its bracket, by itself and by the automaton. Assumes nothing.
-use Rattle.std.proofs.Common.{◌≡◌, ℕ, ◌<◌, ◌≤◌, Bool, true, false, ◌&&◌, leb, List, [], ◌∷◌, ◌++◌, length, sym, refl, ap, ◌∙◌, append_assoc, arith}
-use Rattle.std.proofs.lemmas.List.{length-append}
-use Rattle.std.proofs.lemmas.Bool.{true≢false, le-leb, cond-true, and_from}
-use Rattle.notation.specs.Characters.{ClassKind, ends, slash, hyphen, barred, itself, class_kind, escapable}
-use Rattle.notation.specs.Expressions.{Range, one}
-use Rattle.notation.specs.Grammar.{ClassByte, bare, escaped, Member, single, range, Members, none, more}
-use Rattle.notation.specs.Automaton.{Frame, state, after, in_class, fresh, in_escape, member, dashed, dashed_escape, ClassState, ClassNext, no_class, inside, finished, class_next, of_class, outcome_of}
+use Rattle.std.proofs.Common.{◌≡◌, ℕ, ◌<◌, ◌≤◌, Bool, true, false, ◌&&◌, leb, ltb, List, [], ◌∷◌, ◌++◌, length, drop, sym, refl, ap, ◌∙◌, subst, append_assoc, arith}
+use Rattle.std.specs.Prelude.{nat_eq}
+use Rattle.std.specs.List.{starts_with}
+use Rattle.std.proofs.lemmas.Bool.{true≢false, ltb-true, le-leb, cond-true, and_from, and_parts}
+use Rattle.notation.specs.Characters.{ClassKind, ends, slash, hyphen, bracket, caret, itself, class_kind, escapable}
+use Rattle.notation.specs.declared.names.Name.{Name}
+use Rattle.notation.specs.Names.{written, ranges}
+use Rattle.notation.specs.Expressions.{Range, Symbol, these, others, TakesSome, one}
+use Rattle.notation.specs.Grammar.{ClassByte, bare, escaped, Member, single, range, name, Members, none, more, Class, listed, complement}
+use Rattle.notation.specs.ClassAutomaton.{ClassState, entered, fresh, in_escape, member, dashed, dashed_escape, naming, ClassNext, no_class, inside, finished, ranges_in, adding, can_take, spelling, ends_name, can_end, spelled, class_moves, kept, class_next}
+use Rattle.notation.specs.Automaton.{Frame, state, after, in_class, of_class, outcome_of}
 use Rattle.notation.proofs.Chars.{escapable_low}
+use Rattle.notation.proofs.Spellings.{any_name, each_name, whole_name, begins_so, begins_by, unfinished}
+use Rattle.notation.proofs.CanTake.{can_take_since, can_take_before, can_take_within, escape_decides, adding_none, adding_more, adding_some}
 use Rattle.notation.proofs.Runs.{outcome_is, onward}
 
 -- where a text leads inside a class
 pub class_run : List ℕ → ClassNext → ClassNext
 class_run [] n = n
 class_run (b ∷ w) no_class = no_class
-class_run (b ∷ w) (inside rs c) = class_run w (class_next (class_kind b) b rs c)
-class_run (b ∷ w) (finished rs) = no_class
+class_run (b ∷ w) (inside s c) = class_run w (class_next (class_kind b) b s c)
+class_run (b ∷ w) (finished s) = no_class
 
 pub run_end : (n : ClassNext) → class_run [] n ≡ n
 unfolding class_run
 run_end n = refl
 
-pub run_on : (b : ℕ) (w : List ℕ) (rs : List Range) (c : ClassState) → class_run (b ∷ w) (inside rs c) ≡ class_run w (class_next (class_kind b) b rs c)
+pub run_on : (b : ℕ) (w : List ℕ) (s : Symbol) (c : ClassState) → class_run (b ∷ w) (inside s c) ≡ class_run w (class_next (class_kind b) b s c)
 unfolding class_run
-run_on b w rs c = refl
+run_on b w s c = refl
 
-pub run_past : (b : ℕ) (w : List ℕ) (rs : List Range) → class_run (b ∷ w) (finished rs) ≡ no_class
+pub run_past : (b : ℕ) (w : List ℕ) (s : Symbol) → class_run (b ∷ w) (finished s) ≡ no_class
 unfolding class_run
-run_past b w rs = refl
+run_past b w s = refl
 
 pub run_dead : (w : List ℕ) → class_run w no_class ≡ no_class
 unfolding class_run
 run_dead [] = refl
 run_dead (b ∷ w) = refl
 
-run_goes : (b : ℕ) (w : List ℕ) (rs : List Range) (c : ClassState) (n : ClassNext) → class_next (class_kind b) b rs c ≡ n → class_run (b ∷ w) (inside rs c) ≡ class_run w n
-run_goes b w rs c n is = run_on b w rs c ∙ ap (class_run w) is
+run_goes : (b : ℕ) (w : List ℕ) (s : Symbol) (c : ClassState) (n : ClassNext) → class_next (class_kind b) b s c ≡ n → class_run (b ∷ w) (inside s c) ≡ class_run w n
+run_goes b w s c n is = run_on b w s c ∙ ap (class_run w) is
 
-pub push_some : (rs : List Range) (r : Range) → 0 < length (rs ++ r ∷ [])
-push_some rs r = rw length-append (omega arith)
+kept_on : (n : ClassNext) (s : Symbol) (c : ClassState) → n ≡ inside s c → can_end s c ≡ true → kept n ≡ inside s c
+kept_on n s c is can = ap kept is ∙ cond-true (can_end s c) _ _ can
 
-abbrev is_hyphen : ClassKind → Bool
-is_hyphen ends = false
-is_hyphen slash = false
-is_hyphen hyphen = true
-is_hyphen barred = false
-is_hyphen itself = false
+-- can stand first in a class, or right behind a whole member
+abbrev joins : ClassKind → Bool
+joins ends = true
+joins slash = true
+joins hyphen = false
+joins bracket = true
+joins caret = false
+joins itself = true
 
--- w begins, and with no hyphen
-abbrev pub NoHyphen : List ℕ → Type 0
-NoHyphen [] = ⊥
-NoHyphen (b ∷ w) = is_hyphen (class_kind b) ≡ false
+abbrev pub Joins : List ℕ → Type 0
+Joins [] = ⊥
+Joins (b ∷ w) = joins (class_kind b) ≡ true
 
-byte_no_hyphen : {w : List ℕ} {b : ℕ} → ClassByte w b → (r : List ℕ) → NoHyphen (w ++ r)
-byte_no_hyphen (bare small is) r = ap is_hyphen is
-byte_no_hyphen (escaped is) r = refl
+byte_joins : {w : List ℕ} {b : ℕ} → ClassByte w b → (r : List ℕ) → Joins (w ++ r)
+byte_joins (bare small is) r = ap joins is
+byte_joins (escaped is) r = refl
 
-member_settled : (k : ClassKind) (b a : ℕ) (rs : List Range) → is_hyphen k ≡ false → class_next k b rs (member a) ≡ class_next k b (rs ++ (a, a) ∷ []) fresh
-member_settled ends b a [] e = refl
-member_settled ends b a (r ∷ rs) e = refl
-member_settled slash b a [] e = refl
-member_settled slash b a (r ∷ rs) e = refl
-member_settled hyphen b a [] e = absurd (true≢false e)
-member_settled hyphen b a (r ∷ rs) e = absurd (true≢false e)
-member_settled barred b a [] e = refl
-member_settled barred b a (r ∷ rs) e = refl
-member_settled itself b a [] e = refl
-member_settled itself b a (r ∷ rs) e = refl
+-- a name begins with its bracket
+name_begins : (n : Name) → (w : List ℕ) × (written n ≡ 91 ∷ w) × (0 < length w)
+name_begins n =
+    let both = and_parts (starts_with nat_eq (written n) (91 ∷ [])) (ltb 1 (length (written n))) (each_name (λ m. starts_with nat_eq (written m) (91 ∷ []) && ltb 1 (length (written m))) refl n) in
+    let is = begins_so n (91 ∷ []) both.0 in
+    (drop 1 (written n), is, omega (arith, ltb-true 1 (length (written n)) both.1, ap length is))
 
-member_no_hyphen : {w : List ℕ} {r : Range} → Member w r → (rest : List ℕ) → NoHyphen (w ++ rest)
-member_no_hyphen (single c) rest = byte_no_hyphen c rest
-member_no_hyphen (range {v = v} {w = w} c _ _) rest = rw append_assoc (byte_no_hyphen c _)
+member_joins : {w : List ℕ} {rs : List Range} → Member w rs → (rest : List ℕ) → Joins (w ++ rest)
+member_joins (single c) rest = byte_joins c rest
+member_joins (range {v = v} {w = w} c _ _) rest = rw append_assoc (byte_joins c _)
+member_joins (name n) rest = subst (λ l. Joins (l ++ rest)) (sym (name_begins n).1) refl
 
-member_settles : (rs : List Range) (a : ℕ) (w : List ℕ) → NoHyphen w → class_run w (inside rs (member a)) ≡ class_run w (inside (rs ++ (a, a) ∷ []) fresh)
-member_settles rs a [] h = absurd h
-member_settles rs a (b ∷ w) h = run_goes b w rs (member a) _ (member_settled (class_kind b) b a rs h) ∙ sym (run_on b w _ fresh)
+members_join : {w : List ℕ} {rs : List Range} → Members w rs → (rest : List ℕ) → Joins rest → Joins (w ++ rest)
+members_join none rest h = h
+members_join (more {v = v} {w = u} ms m) rest h = rw append_assoc (members_join ms (u ++ rest) (member_joins m rest))
 
-byte_runs : {v : List ℕ} {b : ℕ} → ClassByte v b → (rs : List Range) (w : List ℕ) → class_run (v ++ w) (inside rs fresh) ≡ class_run w (inside rs (member b))
-byte_runs (bare {b} small is) rs w = run_goes b w rs fresh _ (ap (λ k. class_next k b rs fresh) is)
-byte_runs (escaped {b} is) rs w = run_on 92 (b ∷ w) rs fresh ∙ run_goes b w rs in_escape _ (escape_next (class_kind b))
-  where
-    escape_next : (k : ClassKind) → class_next k b rs in_escape ≡ inside rs (member b)
-    escape_next k = cond-true (escapable b) _ _ is
+member_settled : (k : ClassKind) (b a : ℕ) (s : Symbol) → joins k ≡ true → class_next k b s (member a) ≡ class_next k b (adding s ((a, a) ∷ [])) fresh
+member_settled ends b a s e = refl
+member_settled slash b a s e = refl
+member_settled hyphen b a s e = absurd (true≢false (sym e))
+member_settled bracket b a s e = refl
+member_settled caret b a s e = absurd (true≢false (sym e))
+member_settled itself b a s e = refl
 
--- the second byte of a range
-bound_runs : {v : List ℕ} {b : ℕ} → ClassByte v b → (rs : List Range) (a : ℕ) → a ≤ b → (w : List ℕ) → class_run (v ++ w) (inside rs (dashed a)) ≡ class_run w (inside (rs ++ (a, b) ∷ []) fresh)
-bound_runs (bare {b} small is) rs a le w = run_goes b w rs (dashed a) _ (ap (λ k. class_next k b rs (dashed a)) is ∙ cond-true (leb a b) _ _ (le-leb a b le))
-bound_runs (escaped {b} is) rs a le w =
-    let low = escapable_low b is in
-    run_goes 92 (b ∷ w) rs (dashed a) (inside rs (dashed_escape a)) (cond-true (leb a 125) _ _ (le-leb a 125 (omega arith)))
-    ∙ run_goes b w rs (dashed_escape a) _ (escape_next (class_kind b))
-  where
-    escape_next : (k : ClassKind) → class_next k b rs (dashed_escape a) ≡ inside (rs ++ (a, b) ∷ []) fresh
-    escape_next k = cond-true (escapable b && leb a b) _ _ (and_from _ _ is (le-leb a b le))
+member_settles : (s : Symbol) (a : ℕ) (w : List ℕ) → Joins w → class_run w (inside s (member a)) ≡ class_run w (inside (adding s ((a, a) ∷ [])) fresh)
+member_settles s a [] h = absurd h
+member_settles s a (b ∷ w) h = run_goes b w s (member a) _ (member_settled (class_kind b) b a s h) ∙ sym (run_on b w _ fresh)
 
-member_runs : {v : List ℕ} {r : Range} → Member v r → (rs : List Range) (w : List ℕ) → NoHyphen w → class_run (v ++ w) (inside rs fresh) ≡ class_run w (inside (rs ++ r ∷ []) fresh)
-member_runs (single {b = b} c) rs w h = byte_runs c rs w ∙ member_settles rs b w h
-member_runs (range {v = v} {w = u} {a = a} {b = b} c e le) rs w h =
-    ap (λ l. class_run l (inside rs fresh)) (append_assoc v (45 ∷ u) w)
-    ∙ byte_runs c rs (45 ∷ (u ++ w))
-    ∙ run_on 45 (u ++ w) rs (member a)
-    ∙ bound_runs e rs a le w
+entered_settled : (k : ClassKind) (b : ℕ) → joins k ≡ true → class_next k b (these []) entered ≡ class_next k b (these []) fresh
+entered_settled ends b e = refl
+entered_settled slash b e = refl
+entered_settled hyphen b e = refl
+entered_settled bracket b e = refl
+entered_settled caret b e = absurd (true≢false (sym e))
+entered_settled itself b e = refl
 
-members_run : {v : List ℕ} {rs : List Range} → Members v rs → (w : List ℕ) → NoHyphen w → class_run (v ++ w) (inside [] fresh) ≡ class_run w (inside rs fresh)
-members_run none w h = refl
-members_run (more {v = v} {w = u} {rs = rs} ms m) w h =
-    ap (λ l. class_run l (inside [] fresh)) (append_assoc v u w)
-    ∙ members_run ms (u ++ w) (member_no_hyphen m w)
-    ∙ member_runs m rs w h
+pub entered_settles : (w : List ℕ) → Joins w → class_run w (inside (these []) entered) ≡ class_run w (inside (these []) fresh)
+entered_settles [] h = absurd h
+entered_settles (b ∷ w) h = run_goes b w (these []) entered _ (entered_settled (class_kind b) b h) ∙ sym (run_on b w _ fresh)
 
-ends_class : (rs : List Range) → 0 < length rs → class_run (93 ∷ []) (inside rs fresh) ≡ finished rs
+-- with what is read here the class can still take some byte
+module _ (s : Symbol) where
+  pub escape_runs : (b : ℕ) → escapable b ≡ true → can_take (adding s ((b, b) ∷ [])) ≡ true → (w : List ℕ) → class_run (b ∷ w) (inside s in_escape) ≡ class_run w (inside s (member b))
+  escape_runs b is can w = run_goes b w s in_escape _ (kept_on _ s (member b) (moved (class_kind b)) can)
+    where
+      moved : (k : ClassKind) → class_moves k b s in_escape ≡ inside s (member b)
+      moved k = cond-true (escapable b) _ _ is
+
+  pub byte_runs : {v : List ℕ} {b : ℕ} → ClassByte v b → can_take (adding s ((b, b) ∷ [])) ≡ true → (w : List ℕ) → class_run (v ++ w) (inside s fresh) ≡ class_run w (inside s (member b))
+  byte_runs (bare {b} small is) can w = run_goes b w s fresh _ (kept_on _ s (member b) (ap (λ k. class_moves k b s fresh) is) can)
+  byte_runs (escaped {b} is) can w = run_goes 92 (b ∷ w) s fresh _ (kept_on _ s in_escape refl (can_take_before s ((b, b) ∷ []) can)) ∙ escape_runs b is can w
+
+  pub ends_range : (a b : ℕ) → escapable b ≡ true → a ≤ b → can_take (adding s ((a, b) ∷ [])) ≡ true → (w : List ℕ) → class_run (b ∷ w) (inside s (dashed_escape a)) ≡ class_run w (inside (adding s ((a, b) ∷ [])) fresh)
+  ends_range a b is le can w = run_goes b w s (dashed_escape a) _ (kept_on _ _ fresh (moved (class_kind b)) can)
+    where
+      moved : (k : ClassKind) → class_moves k b s (dashed_escape a) ≡ inside (adding s ((a, b) ∷ [])) fresh
+      moved k = cond-true (escapable b && leb a b) _ _ (and_from _ _ is (le-leb a b le))
+
+  -- the second byte of a range
+  pub bound_runs : {v : List ℕ} {b : ℕ} → ClassByte v b → (a : ℕ) → a ≤ b → can_take (adding s ((a, b) ∷ [])) ≡ true → (w : List ℕ) → class_run (v ++ w) (inside s (dashed a)) ≡ class_run w (inside (adding s ((a, b) ∷ [])) fresh)
+  bound_runs (bare {b} small is) a le can w = run_goes b w s (dashed a) _ (kept_on _ _ fresh (ap (λ k. class_moves k b s (dashed a)) is ∙ cond-true (leb a b) _ _ (le-leb a b le)) can)
+  bound_runs (escaped {b} is) a le can w =
+      run_goes 92 (b ∷ w) s (dashed a) _ (kept_on _ s (dashed_escape a) refl ((escape_decides s a).1 (b, omega (arith, escapable_low b is), (is, (le, can)))))
+      ∙ ends_range a b is le can w
+
+  name_can_end : (n : Name) → can_take (adding s (ranges n)) ≡ true → (x y : List ℕ) → written n ≡ x ++ y → can_end s (naming x) ≡ true
+  name_can_end n can x y is = any_name (ends_name s x) n (and_from _ _ (begins_by n x y is) can)
+
+  -- from a beginning x of the name, what is left of it
+  pub name_runs : (n : Name) → can_take (adding s (ranges n)) ≡ true → (x y : List ℕ) → written n ≡ x ++ y → 0 < length y → (w : List ℕ)
+      → class_run (y ++ w) (inside s (naming x)) ≡ class_run w (inside (adding s (ranges n)) fresh)
+  name_runs n can x [] is some w = absurd (omega arith)
+  name_runs n can x (b ∷ []) is some w = run_goes b w s (naming x) _ (kept_on _ (adding s (ranges n)) fresh (moved (class_kind b)) can)
+    where
+      moved : (k : ClassKind) → class_moves k b s (naming x) ≡ inside (adding s (ranges n)) fresh
+      moved k = ap (λ o. spelled o s (x ++ b ∷ [])) (ap spelling (sym is) ∙ whole_name n)
+  name_runs n can x (b ∷ (c ∷ y)) is some w =
+      run_goes b (c ∷ (y ++ w)) s (naming x) _ (kept_on _ s (naming (x ++ b ∷ [])) (moved (class_kind b)) (name_can_end n can _ (c ∷ y) longer))
+      ∙ name_runs n can (x ++ b ∷ []) (c ∷ y) longer (omega arith) w
+    where
+      longer : written n ≡ (x ++ b ∷ []) ++ c ∷ y
+      longer = is ∙ sym (append_assoc x (b ∷ []) (c ∷ y))
+
+      moved : (k : ClassKind) → class_moves k b s (naming x) ≡ inside s (naming (x ++ b ∷ []))
+      moved k = ap (λ o. spelled o s (x ++ b ∷ [])) (unfinished n (x ++ b ∷ []) (c ∷ y) longer (omega arith))
+
+  member_runs : {v : List ℕ} {qs : List Range} → Member v qs → can_take (adding s qs) ≡ true → (w : List ℕ) → Joins w → class_run (v ++ w) (inside s fresh) ≡ class_run w (inside (adding s qs) fresh)
+  member_runs (single {b = b} c) can w h = byte_runs c can w ∙ member_settles s b w h
+  member_runs (range {v = v} {w = u} {a = a} {b = b} c e le) can w h =
+      let first = can_take_within s a b le can in
+      ap (λ l. class_run l (inside s fresh)) (append_assoc v (45 ∷ u) w)
+      ∙ byte_runs c first (45 ∷ (u ++ w))
+      ∙ run_goes 45 (u ++ w) s (member a) _ (kept_on _ s (dashed a) refl first)
+      ∙ bound_runs e a le can w
+  member_runs (name n) can w h =
+      let (rest, is, some) = name_begins n in
+      ap (λ l. class_run (l ++ w) (inside s fresh)) is
+      ∙ run_goes 91 (rest ++ w) s fresh _ (kept_on _ s (naming (91 ∷ [])) refl (name_can_end n can (91 ∷ []) rest is))
+      ∙ name_runs n can (91 ∷ []) rest is some w
+
+members_run : (s : Symbol) {v : List ℕ} {rs : List Range} → Members v rs → can_take (adding s rs) ≡ true → (w : List ℕ) → Joins w → class_run (v ++ w) (inside s fresh) ≡ class_run w (inside (adding s rs) fresh)
+members_run s none can w h = ap (λ x. class_run w (inside x fresh)) (sym (adding_none s))
+members_run s (more {v = v} {w = u} {rs = rs} {qs = qs} ms m) can w h =
+    let on = ap can_take (adding_more s rs qs) ∙ can in
+    ap (λ l. class_run l (inside s fresh)) (append_assoc v u w)
+    ∙ members_run s ms (can_take_before (adding s rs) qs on) (u ++ w) (member_joins m w)
+    ∙ member_runs (adding s rs) m on w h
+    ∙ ap (λ x. class_run w (inside x fresh)) (adding_more s rs qs)
+
+ends_ranges : (s : Symbol) → 0 < length (ranges_in s) → class_run (93 ∷ []) (inside s fresh) ≡ finished s
 unfolding class_run
-ends_class [] some = absurd (omega arith)
-ends_class (r ∷ rs) some = refl
+ends_ranges (these []) some = absurd (omega arith)
+ends_ranges (these (r ∷ rs)) some = refl
+ends_ranges (others []) some = absurd (omega arith)
+ends_ranges (others (r ∷ rs)) some = refl
 
-pub class_finishes : {v : List ℕ} {rs : List Range} → Members v rs → 0 < length rs → class_run (v ++ 93 ∷ []) (inside [] fresh) ≡ finished rs
-class_finishes {v} {rs} ms some = members_run ms (93 ∷ []) refl ∙ ends_class rs some
+pub class_finishes : {v : List ℕ} {s : Symbol} → Class v s → TakesSome s → class_run (v ++ 93 ∷ []) (inside (these []) entered) ≡ finished s
+class_finishes (listed {rs = rs} ms some) takes =
+    entered_settles _ (members_join ms (93 ∷ []) refl) ∙ members_run (these []) ms refl (93 ∷ []) refl ∙ ends_ranges (these rs) some
+class_finishes (complement {w = v} {rs = rs} ms some) takes =
+    let can = can_take_since (others rs) takes in
+    run_goes 94 (v ++ 93 ∷ []) (these []) entered _ (kept_on _ (others []) fresh refl (can_take_before (others []) rs can))
+    ∙ members_run (others []) ms can (93 ∷ []) refl
+    ∙ ends_ranges (others rs) some
 
-pub not_finished : (rs : List Range) → no_class ≡ finished rs → ⊥
-not_finished rs is = cc
+-- once a member has been added
+pub adding_ends : (s : Symbol) (qs : List Range) → 0 < length qs → class_run (93 ∷ []) (inside (adding s qs) fresh) ≡ finished (adding s qs)
+adding_ends s qs some = ends_ranges (adding s qs) (adding_some s qs some)
+
+pub member_ends : (s : Symbol) (a : ℕ) → class_run (93 ∷ []) (inside s (member a)) ≡ finished (adding s ((a, a) ∷ []))
+member_ends s a = member_settles s a (93 ∷ []) refl ∙ adding_ends s ((a, a) ∷ []) (omega arith)
+
+pub not_finished : (s : Symbol) → no_class ≡ finished s → ⊥
+not_finished s is = cc
 
 module _ (fr : Frame) (d : ℕ) (ctx : List Frame) where
-  finished_outcome : (v : List ℕ) (n : ClassNext) (rs : List Range) → class_run v n ≡ finished rs → (w : List ℕ) → onward (of_class n fr d ctx) (v ++ w) ≡ outcome_of (state (after (one rs)) fr d ctx) w
+  pub finished_outcome : (v : List ℕ) (n : ClassNext) (s : Symbol) → class_run v n ≡ finished s → (w : List ℕ) → onward (of_class n fr d ctx) (v ++ w) ≡ outcome_of (state (after (one s)) fr d ctx) w
   unfolding class_run
-  finished_outcome [] n rs is w = ap (λ n. onward (of_class n fr d ctx) w) is
-  finished_outcome (b ∷ v) no_class rs is w = absurd (not_finished rs is)
-  finished_outcome (b ∷ v) (inside qs c) rs is w = outcome_is _ b (v ++ w) ∙ finished_outcome v (class_next (class_kind b) b qs c) rs is w
-  finished_outcome (b ∷ v) (finished qs) rs is w = absurd (not_finished rs is)
+  finished_outcome [] n s is w = ap (λ n. onward (of_class n fr d ctx) w) is
+  finished_outcome (b ∷ v) no_class s is w = absurd (not_finished s is)
+  finished_outcome (b ∷ v) (inside q c) s is w = outcome_is _ b (v ++ w) ∙ finished_outcome v (class_next (class_kind b) b q c) s is w
+  finished_outcome (b ∷ v) (finished q) s is w = absurd (not_finished s is)
 
-  pub class_runs : {v : List ℕ} {rs : List Range} → Members v rs → 0 < length rs → (w : List ℕ) → outcome_of (state (in_class [] fresh) fr d ctx) (v ++ 93 ∷ w) ≡ outcome_of (state (after (one rs)) fr d ctx) w
-  class_runs {v} {rs} ms some w =
-      ap (outcome_of _) (sym (append_assoc v (93 ∷ []) w)) ∙ finished_outcome (v ++ 93 ∷ []) (inside [] fresh) rs (class_finishes ms some) w
+  pub class_runs : {v : List ℕ} {s : Symbol} → Class v s → TakesSome s → (w : List ℕ) → outcome_of (state (in_class (these []) entered) fr d ctx) (v ++ 93 ∷ w) ≡ outcome_of (state (after (one s)) fr d ctx) w
+  class_runs {v} {s} class takes w =
+      ap (outcome_of _) (sym (append_assoc v (93 ∷ []) w)) ∙ finished_outcome (v ++ 93 ∷ []) (inside (these []) entered) s (class_finishes class takes) w

@@ -23,7 +23,7 @@ module _ (G : List ℕ → Regex → Type 0) (d : ℕ) (group_runs : (v : List �
   atom_runs (a_plain {b} small is) fr ctx w = outcome_alive _ _ b w (ap (λ k. begin k b fr d ctx) is)
   atom_runs (an_escape {b} is) fr ctx w = escape_runs b is fr d ctx w
   atom_runs a_dot fr ctx w = outcome_alive _ _ 46 w refl
-  atom_runs (a_class {w = v} ms some) fr ctx w = outcome_alive _ _ 91 _ refl ∙ ap (outcome_of _) (append_assoc v (93 ∷ []) w) ∙ class_runs fr d ctx ms some w
+  atom_runs (a_class {w = v} class takes) fr ctx w = outcome_alive _ _ 91 _ refl ∙ ap (outcome_of _) (append_assoc v (93 ∷ []) w) ∙ class_runs fr d ctx class takes w
   atom_runs (a_group {w = v} {e = e} g) fr ctx w = ap (λ l. outcome_of (state ready fr d ctx) (40 ∷ l)) (append_assoc v (41 ∷ []) w) ∙ group_runs v e g fr ctx w
 
   piece_runs : {v : List ℕ} {e : Regex} → Piece G v e → (fr : Frame) (ctx : List Frame) (w : List ℕ) → NoRepeat w → outcome_of (state ready fr d ctx) (v ++ w) ≡ outcome_of (state ready (push e fr) d ctx) w
@@ -34,7 +34,7 @@ module _ (G : List ℕ → Regex → Type 0) (d : ℕ) (group_runs : (v : List �
   atom_no_repeat (a_plain small is) w = ap is_repeat is
   atom_no_repeat (an_escape is) w = refl
   atom_no_repeat a_dot w = refl
-  atom_no_repeat (a_class ms some) w = refl
+  atom_no_repeat (a_class class takes) w = refl
   atom_no_repeat (a_group g) w = refl
 
   piece_no_repeat : {v : List ℕ} {e : Regex} → Piece G v e → (w : List ℕ) → NoRepeat (v ++ w)

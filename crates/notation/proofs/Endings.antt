@@ -1,16 +1,16 @@
 -- From each state that some text leads to, bytes can follow that end a well-written pattern. Assumes nothing.
-use Rattle.std.proofs.Common.{◌≡◌, ℕ, suc, ◌+◌, ◌-◌, ◌*◌, ◌<◌, ◌≤◌, leb, List, [], ◌∷◌, ◌++◌, length, decimal, sym, refl, ap, ◌∙◌, subst, ⊎_elim, arith}
+use Rattle.std.proofs.Common.{◌≡◌, ℕ, suc, ◌+◌, ◌-◌, ◌*◌, ◌<◌, ◌≤◌, leb, List, [], ◌∷◌, ◌++◌, decimal, sym, refl, ap, ◌∙◌, subst, ⊎_elim, arith}
 use Rattle.std.proofs.lemmas.Fmt.{decimal_digit}
 use Rattle.std.proofs.lemmas.Bool.{cond-true, le-leb, and_from, cases_lt}
-use Rattle.notation.specs.Expressions.{Range, Regex, one, byte, counted}
-use Rattle.notation.specs.Grammar.{ClassByte, bare, escaped}
-use Rattle.notation.specs.Automaton.{Frame, State, state, ready, after, escape, in_class, in_count, ClassState, fresh, in_escape, member, dashed, dashed_escape, CountState, awaiting, digits, Stage, least, most, bound, of_class, of_count, good, closed, push, outcome_of}
-use Rattle.notation.proofs.Chars.{escapable_low}
+use Rattle.notation.specs.Expressions.{Symbol, Regex, one, byte, counted}
+use Rattle.notation.specs.ClassAutomaton.{ClassState, inside}
+use Rattle.notation.specs.Automaton.{Frame, State, state, ready, after, escape, in_class, in_count, CountState, awaiting, digits, Stage, least, most, bound, of_count, good, closed, push, outcome_of}
 use Rattle.notation.proofs.Runs.{NoRepeat, settles, outcome_alive, outcome_end}
-use Rattle.notation.proofs.ClassRuns.{push_some}
+use Rattle.notation.proofs.ClassRuns.{finished_outcome}
 use Rattle.notation.proofs.CountRuns.{number_runs, goes_on, decimal_two}
-use Rattle.notation.proofs.Seen.{Class, Before, Count, Seen}
-use Rattle.notation.proofs.Sounds.{Bytes}
+use Rattle.notation.proofs.Seen.{ClassSoFar, Before, Count, Seen}
+use Rattle.notation.proofs.Sounds.{Bytes, bytes_append}
+use Rattle.notation.proofs.ClassEndings.{class_ending}
 
 -- some bytes end what s has begun
 abbrev pub Ending : State → Type 0
@@ -41,29 +41,12 @@ decimal_bytes n top v bytes =
     (λ two. subst (λ l. Bytes (l ++ v)) (sym (decimal_two n two (omega arith))) (omega arith, (omega arith, bytes)))
     (cases_lt n 10)
 
-byte_small : {w : List ℕ} {b : ℕ} → ClassByte w b → b < 256
-byte_small (bare small is) = small
-byte_small (escaped {b} is) = omega (arith, escapable_low b is)
-
 module _ (fr : Frame) (d : ℕ) (ctx : List Frame) where
-  class_closes : (rs : List Range) → 0 < length rs → Ending (state (in_class rs fresh) fr d ctx)
-  class_closes [] some = absurd (omega arith)
-  class_closes (r ∷ rs) some = one_more _ _ 93 (omega arith) (λ w. outcome_alive _ _ 93 w refl) (after_ends (one (r ∷ rs)) fr d ctx)
-
-  member_ends : (rs : List Range) (a : ℕ) → Ending (state (in_class rs (member a)) fr d ctx)
-  member_ends rs a = one_more _ _ 93 (omega arith) (λ w. outcome_alive _ _ 93 w refl) (after_ends (one (rs ++ (a, a) ∷ [])) fr d ctx)
-
-  class_ends : (rs : List Range) (c : ClassState) (t : List ℕ) → Class rs c t → Ending (state (in_class rs c) fr d ctx)
-  class_ends rs fresh t seen = one_more _ _ 46 (omega arith) (λ w. outcome_alive _ (state (in_class rs (member 46)) fr d ctx) 46 w refl) (member_ends rs 46)
-  class_ends rs in_escape t seen = one_more _ _ 46 (omega arith) (λ w. outcome_alive _ (state (in_class rs (member 46)) fr d ctx) 46 w refl) (member_ends rs 46)
-  class_ends rs (member a) t seen = member_ends rs a
-  class_ends rs (dashed a) t (v, y, is, ms, part) =
-      let small = byte_small part.2 in
-      one_more _ _ 255 (omega arith) (λ w. outcome_alive _ (state (in_class (rs ++ (a, 255) ∷ []) fresh) fr d ctx) 255 w (ap (λ n. of_class n fr d ctx) (cond-true (leb a 255) _ _ (le-leb a 255 (omega arith)))))
-      (class_closes (rs ++ (a, 255) ∷ []) (push_some rs (a, 255)))
-  class_ends rs (dashed_escape a) t (v, y, is, ms, part) =
-      one_more _ _ 125 (omega arith) (λ w. outcome_alive _ (state (in_class (rs ++ (a, 125) ∷ []) fresh) fr d ctx) 125 w (ap (λ n. of_class n fr d ctx) (cond-true (leb a 125) _ _ (le-leb a 125 part.3))))
-      (class_closes (rs ++ (a, 125) ∷ []) (push_some rs (a, 125)))
+  class_ends : (s : Symbol) (c : ClassState) (t : List ℕ) → ClassSoFar s c t → Ending (state (in_class s c) fr d ctx)
+  class_ends s c t seen =
+      let (v, bytes, f, is) = class_ending s c t seen in
+      let (w, more, e, good') = after_ends (one f) fr d ctx in
+      (v ++ w, bytes_append v w bytes more, e, finished_outcome fr d ctx v (inside s c) f is w ∙ good')
 
   enough_ends : (f : Regex) (s : Stage) (n : ℕ) → bound s ≤ n → Ending (state (in_count f (digits s n)) fr d ctx)
   enough_ends f least n le = one_more _ _ 125 (omega arith) (λ w. outcome_alive _ _ 125 w refl) (ready_ends (push (counted n n f) fr) d ctx)
@@ -100,5 +83,5 @@ pub ending : (s : State) (w : List ℕ) → Seen s w → Ending s
 ending (state ready fr d ctx) w seen = ready_ends fr d ctx
 ending (state (after f) fr d ctx) w seen = after_ends f fr d ctx
 ending (state escape fr d ctx) w seen = one_more _ (state (after (one (byte 46))) fr d ctx) 46 (omega arith) (λ v. outcome_alive _ _ 46 v refl) (after_ends (one (byte 46)) fr d ctx)
-ending (state (in_class rs c) fr d ctx) w (o, u, t, e, around, within, (v, is, class)) = class_ends fr d ctx rs c v class
+ending (state (in_class s c) fr d ctx) w (o, u, t, e, around, within, (v, is, class)) = class_ends fr d ctx s c v class
 ending (state (in_count f c) fr d ctx) w (o, u, t, e, around, within, (v, y, is, atom, count)) = count_ends fr d ctx f c y count

@@ -1,3 +1,6 @@
+pub mod ByteTests
+pub mod Spellings
+pub mod CanTake
 pub mod Chars
 pub mod Runs
 pub mod ClassRuns
@@ -8,6 +11,7 @@ pub mod ClassSeen
 pub mod CountSeen
 pub mod Steps
 pub mod Sounds
+pub mod ClassEndings
 pub mod Endings
 pub mod Faults
 pub mod Worked

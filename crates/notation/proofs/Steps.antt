@@ -3,11 +3,12 @@ use Rattle.std.proofs.Common.{◌≡◌, ℕ, zero, suc, ◌<◌, List, [], ◌�
 use Rattle.std.proofs.lemmas.Bool.{cond_both}
 use Rattle.notation.specs.Characters.{Kind, bar, times, add, query, open', close', square, unsquare, brace, unbrace, dot, backslash, plain, kind, escapable, class_kind}
 use Rattle.notation.specs.Expressions.{Regex, one, alt, counted}
-use Rattle.notation.specs.Grammar.{none, Repeated, by_star, by_plus, by_opt, by_count, Atom, a_plain, an_escape, a_dot, a_class, a_group, Piece, once, repeated, nothing, followed, Alternatives, lone, also, Written}
-use Rattle.notation.specs.Automaton.{Frame, frame, first, later, ready, after, escape, in_class, in_count, ClassNext, no_class, inside, finished, class_next, CountNext, no_count, counting, counts, count_next, count_kind, State, state, Next, dead, alive, push, closed, begin, repeat_or, of_class, of_count, step_of}
+use Rattle.notation.specs.Grammar.{Repeated, by_star, by_plus, by_opt, by_count, Atom, a_plain, an_escape, a_dot, a_class, a_group, Piece, once, repeated, nothing, followed, Alternatives, lone, also, Written}
+use Rattle.notation.specs.ClassAutomaton.{ClassNext, no_class, inside, finished, class_next}
+use Rattle.notation.specs.Automaton.{Frame, frame, first, later, ready, after, escape, in_class, in_count, CountNext, no_count, counting, counts, count_next, count_kind, State, state, Next, dead, alive, push, closed, begin, repeat_or, of_class, of_count, step_of}
 use Rattle.notation.proofs.Chars.{Has, has}
 use Rattle.notation.proofs.Seen.{Group, Open, Around, Seen}
-use Rattle.notation.proofs.ClassSeen.{class_goes, Goes as ClassGoes}
+use Rattle.notation.proofs.ClassSeen.{class_begun, class_goes, Goes as ClassGoes}
 use Rattle.notation.proofs.CountSeen.{count_goes, Goes as CountGoes}
 
 abbrev pub Goes : Next → List ℕ → Type 0
@@ -51,7 +52,7 @@ begin_goes b small close' is has fr d (f ∷ ctx) w o u e (p, v, before, around,
   a_group (written_is d u (closed fr) (shut d fr u within)),
 )
 begin_goes b small square is has fr d ctx w o u e around within =
-    (o, u, 91 ∷ [], (λ i. e i ++ has i ∷ []) ∙ append_assoc o u _, around, within, ([], refl, ([], [], refl, none, refl)))
+    (o, u, 91 ∷ [], (λ i. e i ++ has i ∷ []) ∙ append_assoc o u _, around, within, ([], refl, class_begun))
 begin_goes b small unsquare is has fr d ctx w o u e around within = tt
 begin_goes b small brace is has fr d ctx w o u e around within = tt
 begin_goes b small unbrace is has fr d ctx w o u e around within = tt
@@ -83,10 +84,10 @@ after_goes b small plain is has f fr d ctx w o u t e around within atom = begin_
 class_steps : (b : ℕ) (n : ClassNext) (fr : Frame) (d : ℕ) (ctx : List Frame) (w o u t v : List ℕ)
     → w ≡ o ++ (u ++ t) → Around d ctx o → Open d fr u → t ≡ 91 ∷ v → ClassGoes n v b → Goes (of_class n fr d ctx) (w ++ b ∷ [])
 class_steps b no_class fr d ctx w o u t v e around within is goes = tt
-class_steps b (inside rs c) fr d ctx w o u t v e around within is goes =
+class_steps b (inside s c) fr d ctx w o u t v e around within is goes =
     (o, u, t ++ b ∷ [], glue w o u t _ e, around, within, (v ++ b ∷ [], ap (λ l. l ++ b ∷ []) is, goes))
-class_steps b (finished rs) fr d ctx w o u t v e around within is (ends, some, ms) =
-    (o, u, t ++ b ∷ [], glue w o u t _ e, around, within, subst (λ l. Atom (Group d) l (one rs)) (sym (λ i. is i ++ ends i ∷ [])) (a_class ms some))
+class_steps b (finished s) fr d ctx w o u t v e around within is (ends, class, takes) =
+    (o, u, t ++ b ∷ [], glue w o u t _ e, around, within, subst (λ l. Atom (Group d) l (one s)) (sym (λ i. is i ++ ends i ∷ [])) (a_class class takes))
 
 count_steps : (b : ℕ) (n : CountNext) (f : Regex) (fr : Frame) (d : ℕ) (ctx : List Frame) (w o u t v y : List ℕ)
     → w ≡ o ++ (u ++ t) → Around d ctx o → Open d fr u → t ≡ v ++ 123 ∷ y → Atom (Group d) v f → CountGoes n y b → Goes (of_count n f fr d ctx) (w ++ b ∷ [])
@@ -110,7 +111,7 @@ step_goes (state (after f) fr d ctx) b w small (o, u, t, e, around, within, sign
 step_goes (state escape fr d ctx) b w small (o, u, t, e, around, within, sign) =
     cond_both (escapable b) _ _ (λ n. Goes n (w ++ b ∷ []))
     (λ is. (o, u, 92 ∷ (b ∷ []), glue w o u t _ e ∙ ap (λ l. o ++ (u ++ (l ++ b ∷ []))) sign, around, within, an_escape is)) (λ _. tt)
-step_goes (state (in_class rs c) fr d ctx) b w small (o, u, t, e, around, within, (v, is, class)) =
-    class_steps b (class_next (class_kind b) b rs c) fr d ctx w o u t v e around within is (class_goes b small rs c v class)
+step_goes (state (in_class s c) fr d ctx) b w small (o, u, t, e, around, within, (v, is, class)) =
+    class_steps b (class_next (class_kind b) b s c) fr d ctx w o u t v e around within is (class_goes b small s c v class)
 step_goes (state (in_count f c) fr d ctx) b w small (o, u, t, e, around, within, (v, y, is, atom, count)) =
     count_steps b (count_next (count_kind b) c) f fr d ctx w o u t v y e around within is atom (count_goes b c y count)

@@ -1,26 +1,18 @@
 -- Patterns worked out by hand: the automaton is run on each pattern, and its set is looked into. Assumes nothing.
-use Rattle.std.proofs.Common.{◌≡◌, ℕ, zero, suc, ◌-◌, ◌≤◌, Bool, true, ◌&&◌, ltb, List, [], ◌∷◌, ◌++◌, length, get_or, codes, refl, ap, ◌∙◌, subst, inl, inr, arith, length-append}
+use Rattle.std.proofs.Common.{◌≡◌, ℕ, zero, suc, ◌-◌, ◌≤◌, true, List, [], ◌∷◌, ◌++◌, length, get_or, codes, refl, ap, ◌∙◌, subst, inl, inr, arith, length-append}
 use Rattle.std.specs.List.{flat_map, AllByRecursion}
-use Rattle.std.proofs.lemmas.Bool.{and_parts, ltb-true}
 use Rattle.fault.specs.declared.Refusal.TheVariants.{BadlyWritten, TooManyPlaces}
-use Rattle.notation.specs.Expressions.{Regex, byte, one, empty, seq, alt, star, plus, counted, Takes}
+use Rattle.notation.specs.Expressions.{these, others, InSome, Regex, byte, one, empty, seq, alt, star, plus, counted, Takes}
 use Rattle.notation.specs.Places.{places}
 use Rattle.notation.specs.Grammar.{Written}
 use Rattle.notation.specs.Beginnings.{LongestBeginning}
 use Rattle.notation.specs.Meaning.{Lang, Empty, Union, Copies, Matches}
+use Rattle.notation.specs.ClassAutomaton.{some_below, spelling}
 use Rattle.notation.specs.Automaton.{good, bad, outcome_of, start}
 use Rattle.notation.specs.Refusals.{refused}
 use Rattle.notation.specs.Reading.{ReadAs, Refused}
-use Rattle.notation.proofs.Sounds.{Bytes, sound}
+use Rattle.notation.proofs.Sounds.{all_bytes, bytes_by, sound}
 use Rattle.notation.proofs.Faults.{longest, not_written}
-
-abbrev all_bytes : List ℕ → Bool
-all_bytes [] = true
-all_bytes (b ∷ w) = ltb b 256 && all_bytes w
-
-bytes_by : (w : List ℕ) → all_bytes w ≡ true → Bytes w
-bytes_by [] e = tt
-bytes_by (b ∷ w) e = let p = and_parts _ _ e in (ltb-true b 256 p.0, bytes_by w p.1)
 
 read_as : (w : List ℕ) (e : Regex) → all_bytes w ≡ true → outcome_of start w ≡ good e → Written 16 w e
 read_as w e bytes is = sound w e (bytes_by w bytes) is
@@ -89,7 +81,7 @@ stars_omit (u, v, is, none, (ws, all, whole)) = no_cab ws all (is ∙ (λ i. non
 
 -- [A-B]+C
 abbrev pub plusses : Regex
-plusses = seq (seq empty (plus (one ((65, 66) ∷ [])))) (letter 67)
+plusses = seq (seq empty (plus (one (these ((65, 66) ∷ []))))) (letter 67)
 
 pub plusses_read : ReadAs (codes "[A-B]+C") plusses
 unfolding outcome_of
@@ -187,3 +179,48 @@ repeated_twice = refused_at (codes "a**") 1 2 refl (omega arith) refl refl
 pub nothing_to_repeat : Refused (codes "*a") (refused BadlyWritten 0)
 unfolding outcome_of
 nothing_to_repeat = refused_at (codes "*a") 2 0 refl (omega arith) refl refl
+
+pub unknown_name : Refused (codes "[[:foo:]]") (refused BadlyWritten 3)
+unfolding outcome_of some_below spelling
+unknown_name = refused_at (codes "[[:foo:]]") 6 3 refl (omega arith) refl refl
+
+-- a complement that leaves no byte
+pub nothing_left : Refused (91 ∷ 94 ∷ 0 ∷ 45 ∷ 255 ∷ 93 ∷ []) (refused BadlyWritten 4)
+unfolding outcome_of some_below spelling
+nothing_left = refused_at (91 ∷ 94 ∷ 0 ∷ 45 ∷ 255 ∷ 93 ∷ []) 2 4 refl (omega arith) refl refl
+
+-- [[:digit:]]
+abbrev pub digit : Regex
+digit = seq empty (one (these ((48, 57) ∷ [])))
+
+pub digit_read : ReadAs (codes "[[:digit:]]") digit
+unfolding outcome_of some_below spelling
+digit_read = reads (codes "[[:digit:]]") digit refl (omega arith) refl (omega arith)
+
+pub digit_yields : Matches digit (codes "5")
+digit_yields = ([], codes "5", refl, refl, (53, refl, inl (omega arith, omega arith)))
+
+same_letter : (a b : ℕ) (u v : List ℕ) → a ∷ [] ≡ u ++ v → u ≡ [] → v ≡ b ∷ [] → a ≡ b
+same_letter a b u v is none lone = ap (λ l. get_or l 0 0) (is ∙ (λ i. none i ++ lone i))
+
+pub digit_omits : Matches digit (codes "a") → ⊥
+digit_omits (u, v, is, none, (c, lone, inl (lo, hi))) = let same = same_letter 97 c u v is none lone in omega arith
+digit_omits (u, v, is, none, (c, lone, inr out)) = absurd out
+
+-- [^a]
+abbrev pub not_a : Regex
+not_a = seq empty (one (others ((97, 97) ∷ [])))
+
+pub not_a_read : ReadAs (codes "[^a]") not_a
+unfolding outcome_of some_below spelling
+not_a_read = reads (codes "[^a]") not_a refl (omega arith) refl (omega arith)
+
+is_not_a : InSome ((97, 97) ∷ []) 98 → ⊥
+is_not_a (inl (lo, hi)) = omega arith
+is_not_a (inr out) = absurd out
+
+pub not_a_yields : Matches not_a (codes "b")
+not_a_yields = ([], codes "b", refl, refl, (98, refl, (omega arith, is_not_a)))
+
+pub not_a_omits : Matches not_a (codes "a") → ⊥
+not_a_omits (u, v, is, none, (c, lone, (small, out))) = let same = same_letter 97 c u v is none lone in out (inl (omega arith, omega arith))

@@ -4,9 +4,10 @@
 --   Mode          between two atoms, after an atom that can still be repeated, or inside a sign
 --   State         a mode, the innermost open pattern, the depth left, and the patterns around it
 --   outcome_of s w   how w goes on from s: read as an expression, or refused with so many bytes unread
-use Rattle.std.specs.Prelude.{ℕ, zero, suc, ◌+◌, ◌-◌, ◌*◌, Bool, cond, ◌&&◌, ◌||◌, List, [], ◌∷◌, ◌++◌, length, ◌==◌, nat_le}
-use Rattle.notation.specs.Characters.{Kind, bar, times, add, query, open', close', square, unsquare, brace, unbrace, dot, backslash, plain, kind, escapable, ClassKind, ends, slash, hyphen, barred, itself, class_kind}
-use Rattle.notation.specs.Expressions.{Range, Regex, byte, any, one, empty, seq, alt, star, plus, opt, counted}
+use Rattle.std.specs.Prelude.{ℕ, zero, suc, ◌+◌, ◌-◌, ◌*◌, Bool, cond, ◌&&◌, ◌||◌, List, [], ◌∷◌, length, ◌==◌, nat_le}
+use Rattle.notation.specs.Characters.{Kind, bar, times, add, query, open', close', square, unsquare, brace, unbrace, dot, backslash, plain, kind, escapable, class_kind}
+use Rattle.notation.specs.ClassAutomaton.{ClassState, entered, ClassNext, no_class, inside, finished, class_next}
+use Rattle.notation.specs.Expressions.{Symbol, these, Regex, byte, any, one, empty, seq, alt, star, plus, opt, counted}
 
 pub data Sofar : Type 0 where
   first : Sofar
@@ -14,10 +15,6 @@ pub data Sofar : Type 0 where
 
 pub data Frame : Type 0 where
   frame : Sofar → Regex → Frame
-
-pub data ClassState : Type 0 where
-  fresh in_escape : ClassState
-  member dashed dashed_escape : ℕ → ClassState
 
 -- which of the two counts is being read: the most knows the least
 pub data Stage : Type 0 where
@@ -32,7 +29,7 @@ pub data Mode : Type 0 where
   ready : Mode
   after : Regex → Mode
   escape : Mode
-  in_class : List Range → ClassState → Mode
+  in_class : Symbol → ClassState → Mode
   in_count : Regex → CountState → Mode
 
 pub data State : Type 0 where
@@ -55,33 +52,6 @@ closed (frame (later a) e) = alt a e
 
 abbrev pub opened : Frame
 opened = frame first empty
-
--- inside a class
-pub data ClassNext : Type 0 where
-  no_class : ClassNext
-  inside : List Range → ClassState → ClassNext
-  finished : List Range → ClassNext
-
--- 125 is the largest byte that can be escaped
-abbrev pub class_next : ClassKind → ℕ → List Range → ClassState → ClassNext
-class_next ends b [] fresh = no_class
-class_next ends b (r ∷ rs) fresh = finished (r ∷ rs)
-class_next slash b rs fresh = inside rs in_escape
-class_next hyphen b rs fresh = no_class
-class_next barred b rs fresh = no_class
-class_next itself b rs fresh = inside rs (member b)
-class_next ends b rs (member a) = finished (rs ++ (a, a) ∷ [])
-class_next slash b rs (member a) = inside (rs ++ (a, a) ∷ []) in_escape
-class_next hyphen b rs (member a) = inside rs (dashed a)
-class_next barred b rs (member a) = no_class
-class_next itself b rs (member a) = inside (rs ++ (a, a) ∷ []) (member b)
-class_next ends b rs (dashed a) = no_class
-class_next slash b rs (dashed a) = cond (nat_le a 125) (inside rs (dashed_escape a)) no_class
-class_next hyphen b rs (dashed a) = no_class
-class_next barred b rs (dashed a) = no_class
-class_next itself b rs (dashed a) = cond (nat_le a b) (inside (rs ++ (a, b) ∷ []) fresh) no_class
-class_next k b rs in_escape = cond (escapable b) (inside rs (member b)) no_class
-class_next k b rs (dashed_escape a) = cond (escapable b && nat_le a b) (inside (rs ++ (a, b) ∷ []) fresh) no_class
 
 -- inside a counted repeat
 pub data CountKind : Type 0 where
@@ -131,7 +101,7 @@ begin open' b fr zero ctx = dead
 begin open' b fr (suc d) ctx = alive (state ready opened d (fr ∷ ctx))
 begin close' b fr d [] = dead
 begin close' b fr d (o ∷ ctx) = alive (state (after (closed fr)) o (suc d) ctx)
-begin square b fr d ctx = alive (state (in_class [] fresh) fr d ctx)
+begin square b fr d ctx = alive (state (in_class (these []) entered) fr d ctx)
 begin unsquare b fr d ctx = dead
 begin brace b fr d ctx = dead
 begin unbrace b fr d ctx = dead
@@ -156,8 +126,8 @@ repeat_or plain b f fr d ctx = begin plain b (push f fr) d ctx
 
 abbrev pub of_class : ClassNext → Frame → ℕ → List Frame → Next
 of_class no_class fr d ctx = dead
-of_class (inside rs c) fr d ctx = alive (state (in_class rs c) fr d ctx)
-of_class (finished rs) fr d ctx = alive (state (after (one rs)) fr d ctx)
+of_class (inside s c) fr d ctx = alive (state (in_class s c) fr d ctx)
+of_class (finished s) fr d ctx = alive (state (after (one s)) fr d ctx)
 
 abbrev pub of_count : CountNext → Regex → Frame → ℕ → List Frame → Next
 of_count no_count f fr d ctx = dead
@@ -168,7 +138,7 @@ abbrev pub step : Mode → ℕ → Frame → ℕ → List Frame → Next
 step ready b fr d ctx = begin (kind b) b fr d ctx
 step (after f) b fr d ctx = repeat_or (kind b) b f fr d ctx
 step escape b fr d ctx = cond (escapable b) (alive (state (after (one (byte b))) fr d ctx)) dead
-step (in_class rs c) b fr d ctx = of_class (class_next (class_kind b) b rs c) fr d ctx
+step (in_class s c) b fr d ctx = of_class (class_next (class_kind b) b s c) fr d ctx
 step (in_count f c) b fr d ctx = of_count (count_next (count_kind b) c) f fr d ctx
 
 abbrev pub finish : State → Outcome
@@ -177,7 +147,7 @@ finish (state (after f) fr d []) = good (closed (push f fr))
 finish (state ready fr d (o ∷ ctx)) = bad 0
 finish (state (after f) fr d (o ∷ ctx)) = bad 0
 finish (state escape fr d ctx) = bad 0
-finish (state (in_class rs c) fr d ctx) = bad 0
+finish (state (in_class s c) fr d ctx) = bad 0
 finish (state (in_count f c) fr d ctx) = bad 0
 
 abbrev pub step_of : State → ℕ → Next

@@ -33,16 +33,17 @@ is_special plain = false
 abbrev pub escapable : ℕ → Bool
 escapable b = is_special (kind b) || (b == 45 || b == 94)
 
--- `]`, `\`, `-`, the other two that must be escaped in a class, and what stands for itself
+-- `]`, `\`, `-`, `[`, `^`, and what stands for itself
 pub data ClassKind : Type 0 where
-  ends slash hyphen barred itself : ClassKind
+  ends slash hyphen bracket caret itself : ClassKind
 
 abbrev pub class_kind : ℕ → ClassKind
-class_kind b = cond (b == 93) ends (cond (b == 92) slash (cond (b == 45) hyphen (cond (b == 91) barred (cond (b == 94) barred itself))))
+class_kind b = cond (b == 93) ends (cond (b == 92) slash (cond (b == 45) hyphen (cond (b == 91) bracket (cond (b == 94) caret itself))))
 
 abbrev pub kind_is_itself : ClassKind → Bool
 kind_is_itself ends = false
 kind_is_itself slash = false
 kind_is_itself hyphen = false
-kind_is_itself barred = false
+kind_is_itself bracket = false
+kind_is_itself caret = false
 kind_is_itself itself = true

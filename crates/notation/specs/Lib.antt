@@ -1,9 +1,11 @@
 pub mod Expressions
+pub mod Names
 pub mod Places
 pub mod Meaning
 pub mod Characters
 pub mod Grammar
 pub mod Beginnings
+pub mod ClassAutomaton
 pub mod Automaton
 pub mod Refusals
 pub mod Reading
