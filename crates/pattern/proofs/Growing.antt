@@ -1,9 +1,9 @@
 -- What each sign makes of a draft. Assumes nothing.
-use Rattle.std.proofs.Common.{◌≡◌, ℕ, ◌<◌, ◌≤◌, Bool, List, length, get_or, sym, ap, subst, arith, Bor}
+use Rattle.std.proofs.Common.{◌≡◌, ℕ, ◌<◌, ◌≤◌, Bool, List, get_or, sym, ap, subst, arith, Bor}
 use Rattle.pattern.specs.declared.sign.Sign.{Sign}
 use Rattle.pattern.specs.declared.sign.Sign.TheVariants.{Plain, Escape, Any, Class, Bar, Star, Plus, Question, Counted}
-use Rattle.notation.specs.Expressions.{Range, one, byte, any, star, plus, opt, counted}
-use Rattle.notation.specs.Grammar.{Members, Counts, exactly, between, a_plain, an_escape, a_dot, a_class, by_star, by_plus, by_opt, by_count}
+use Rattle.notation.specs.Expressions.{Symbol, TakesSome, one, byte, any, star, plus, opt, counted}
+use Rattle.notation.specs.Grammar.{Class as Written, Counts, exactly, between, a_plain, an_escape, a_dot, a_class, by_star, by_plus, by_opt, by_count}
 use Rattle.notation.specs.Automaton.{Frame, Mode}
 use Rattle.pattern.specs.Drafts.{AtomKept, BarKept, RepeatKept, Grows, by_atom, by_bar, by_repeat}
 use Rattle.pattern.specs.Signs.{text, Formed}
@@ -32,8 +32,8 @@ module _ (K K' : Mode → Frame → Type 0) (r : Bool) (s : Sign) (formed : Form
   pub any_grows : s ≡ Any t → AtomKept K K' (one any) → Grows K K' r (text s)
   any_grows is told = as_text _ is (subst (Grows K K' r) (sym (subst (Formed r) is formed)) (by_atom (one any) a_dot told))
 
-  pub class_grows : s ≡ Class t → ((rs : List Range) → Members t.now rs → 0 < length rs → AtomKept K K' (one rs)) → Grows K K' r (text s)
-  class_grows is told = let (rs, ms, some) = subst (Formed r) is formed in as_text _ is (by_atom (one rs) (a_class ms some) (told rs ms some))
+  pub class_grows : s ≡ Class t → ((e : Symbol) → Written t.now e → TakesSome e → AtomKept K K' (one e)) → Grows K K' r (text s)
+  class_grows is told = let (e, written, some) = subst (Formed r) is formed in as_text _ is (by_atom (one e) (a_class written some) (told e written some))
 
   pub bar_grows : s ≡ Bar t → BarKept K K' → Grows K K' r (text s)
   bar_grows is told = as_text _ is (by_bar (subst (Formed r) is formed) told)

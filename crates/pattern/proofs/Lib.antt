@@ -2,9 +2,12 @@ pub mod Exits
 pub mod Slices
 pub mod Numbers
 pub mod CountWays
+pub mod ByteSets
+pub mod NameBytes
 pub mod ClassWays
+pub mod ClassTests
 pub mod ClassLoop
-pub mod ClassMembers
+pub mod ClassBytes
 pub mod Waiting
 pub mod SignWays
 pub mod Drafting

@@ -4,8 +4,8 @@ use Rattle.std.proofs.lemmas.List.{take_at, get_or_at, get_or-drop}
 use Rattle.std.proofs.lemmas.Bool.{true≢false}
 use Rattle.fault.specs.declared.Fault.{Fault}
 use Rattle.notation.specs.Characters.{Kind, bar, times, add, query, open', close', square, unsquare, brace, unbrace, dot, backslash, plain, kind, escapable}
-use Rattle.notation.specs.Expressions.{Range, Regex}
-use Rattle.notation.specs.Grammar.{Members, Counts, Atom, a_plain, an_escape, a_dot, a_class, a_group, Repeated, by_star, by_plus, by_opt, by_count}
+use Rattle.notation.specs.Expressions.{Symbol, TakesSome, Regex}
+use Rattle.notation.specs.Grammar.{Class, Counts, Atom, a_plain, an_escape, a_dot, a_class, a_group, Repeated, by_star, by_plus, by_opt, by_count}
 use Rattle.pattern.specs.Signs.{SignText, an_atom, a_bar, an_open, a_close, a_repeat}
 use Rattle.pattern.specs.Classes.{ClassRefused}
 use Rattle.pattern.specs.Repeats.{CountsRefused}
@@ -19,7 +19,7 @@ Shape add r w = r ≡ true
 Shape query r w = r ≡ true
 Shape open' r w = Unit {0}
 Shape close' r w = Unit {0}
-Shape square r w = (v : List ℕ) × (rs : List Range) × (w ≡ v ++ 93 ∷ []) × Members v rs × (0 < length rs)
+Shape square r w = (v : List ℕ) × (s : Symbol) × (w ≡ v ++ 93 ∷ []) × Class v s × TakesSome s
 Shape unsquare r w = ⊥
 Shape brace r w = (r ≡ true) × (m : ℕ) × (n : ℕ) × Counts w m n
 Shape unbrace r w = ⊥
@@ -34,7 +34,7 @@ atom_shape : {t : List ℕ} {e : Regex} (r : Bool) → Atom (λ _ _. ⊥) t e �
 atom_shape r (a_plain {b} small is) = (b, [], refl, subst (λ k. Shape k r []) (sym is) tt)
 atom_shape r (an_escape {b} is) = (92, b ∷ [], refl, (b, refl, is))
 atom_shape r a_dot = (46, [], refl, tt)
-atom_shape r (a_class {w} {rs} ms some) = (91, w ++ 93 ∷ [], refl, (w, rs, refl, ms, some))
+atom_shape r (a_class {w} {s} class some) = (91, w ++ 93 ∷ [], refl, (w, s, refl, class, some))
 atom_shape r (a_group g) = absurd g
 
 repeat_shape : {t : List ℕ} {e f : Regex} → Repeated t e f → Shaped true t
@@ -80,9 +80,9 @@ module _ (p : List ℕ) (at : ℕ) (lt : at < length p) where
 
   pub no_class_lem : (r : Bool) (f : Fault) → get_or p at 0 ≡ 91 → ClassRefused p (at + 1) f → (n : ℕ) → SignText r (take n (drop at p)) → ⊥
   no_class_lem r f is refused n sign =
-      let (k, (v, rs, e, ms, some)) = rest p at 91 lt is r n sign in
+      let (k, (v, s, e, class, some)) = rest p at 91 lt is r n sign in
       let left = drop k (drop (at + 1) p) in
       let parts : drop (at + 1) p ≡ v ++ (93 ∷ left) = sym (take-append-drop k (drop (at + 1) p)) ∙ ap (λ l. l ++ left) e ∙ append_assoc v (93 ∷ []) left in
       let long : length p - (at + 1) ≡ length v + suc (length left) = sym (length-drop (at + 1) p) ∙ ap length parts ∙ length-append v (93 ∷ left) in
-      refused.none (length v) rs (subst (λ l. Members l rs) (sym (ap (take (length v)) parts ∙ take_at v (93 ∷ left) (length v) refl)) ms) some (omega arith)
+      refused.none (length v) s (subst (λ l. Class l s) (sym (ap (take (length v)) parts ∙ take_at v (93 ∷ left) (length v) refl)) class) some (omega arith)
       (sym (get_or-drop (at + 1) p (length v) 0) ∙ ap (λ l. get_or l (length v) 0) parts ∙ get_or_at v 93 left 0 (length v) refl)

@@ -4,7 +4,9 @@ use Rattle.std.proofs.lemmas.Bool.{cond-false, ne_eqb}
 use Rattle.fault.specs.declared.Fault.{Fault}
 use Rattle.fault.specs.declared.Refusal.TheVariants.{BadlyWritten}
 use Rattle.notation.specs.Characters.{kind, plain, escapable}
-use Rattle.notation.specs.Automaton.{Frame, Mode, escape, in_class, in_count, fresh, awaiting, least, state, dead, alive, push, begin, repeat_or, step, outcome_of}
+use Rattle.notation.specs.Expressions.{these}
+use Rattle.notation.specs.ClassAutomaton.{entered}
+use Rattle.notation.specs.Automaton.{Frame, Mode, escape, in_class, in_count, awaiting, least, state, dead, alive, push, begin, repeat_or, step, outcome_of}
 use Rattle.notation.specs.Refusals.{Stops, refused}
 use Rattle.pattern.specs.Signs.{Waits, SignStops}
 use Rattle.pattern.specs.Classes.{ClassRead, ClassStops}
@@ -50,7 +52,7 @@ module _ (p : List ℕ) (at : ℕ) (lt : at < length p) where
       repeatable
 
   pub class_stops : (repeatable : Bool) (f : Fault) → get_or p at 0 ≡ 91 → ClassStops p (at + 1) f → SignStops p at repeatable f
-  class_stops repeatable f is stop = begun repeatable f 91 (in_class [] fresh) is refl (λ fr d ctx. refl) stop
+  class_stops repeatable f is stop = begun repeatable f 91 (in_class (these []) entered) is refl (λ fr d ctx. refl) stop
 
   pub count_stops : (f : Fault) → get_or p at 0 ≡ 123 → CountsStop p (at + 1) f → SignStops p at true f
   count_stops f is stop =

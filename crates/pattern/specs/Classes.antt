@@ -1,68 +1,52 @@
 -- What is read of a class, from after its bracket. Only private functions cite it. Assumes nothing.
 --
---   Follows old b t new   what the class reader answers to the byte b, None where b cannot stand, and the state that it is left in
---   with_last rs f        the finished members rs, with the one that a byte finishes where there is one
+--   Makes c s             the symbol s is what the finished members of the class c make of it
+--   IsAt c s              c makes s, and s suits its member in hand
+--   Leads, Advances old b t new   what the class answers to the byte b, None where b cannot stand, and what it is then
 --   ClassRead p at end    the inside of the class is p from `at` to `end`, where its bracket stands
 --   ClassStops            the fault has the place where the automaton stops
-use Rattle.std.specs.Prelude.{◌≡◌, ℕ, ◌+◌, ◌<◌, ◌≤◌, Option, None, Some, List, [], ◌∷◌, ◌++◌, length, take, drop, ◌≢◌, slice_index, slice_index_or, slice_range}
+use Rattle.std.specs.Prelude.{◌≡◌, ℕ, ◌+◌, ◌<◌, ◌≤◌, false, true, Option, None, Some, List, [], length, take, drop, ◌≢◌, slice_index, slice_index_or, slice_range}
 use Rattle.fault.specs.declared.Fault.{Fault}
-use Rattle.pattern.specs.declared.class.Progress.{Progress}
-use Rattle.pattern.specs.declared.class.Progress.TheVariants.{Empty, Between, Member, Dash, Escape, DashEscape}
-use Rattle.pattern.specs.declared.class.Taken.{Taken}
-use Rattle.pattern.specs.declared.class.Taken.TheVariants.{Inside, Ended}
+use Rattle.pattern.specs.declared.class.OpenClass.{OpenClass}
+use Rattle.pattern.specs.declared.class.Onward.{Onward}
+use Rattle.pattern.specs.declared.class.Onward.TheVariants.{Inside as goes_on, Ended as ends}
 use Rattle.notation.specs.Characters.{class_kind}
-use Rattle.notation.specs.Expressions.{Range}
-use Rattle.notation.specs.Grammar.{Members}
-use Rattle.notation.specs.Automaton.{Frame, state, in_class, ClassState, fresh, in_escape, member, dashed, dashed_escape, ClassNext, no_class, inside, finished, class_next, outcome_of}
+use Rattle.notation.specs.Expressions.{Symbol, these, others, TakesSome}
+use Rattle.notation.specs.Grammar.{Class}
+use Rattle.notation.specs.ClassAutomaton.{entered, ClassNext, no_class, inside, finished, class_next}
+use Rattle.notation.specs.Automaton.{Frame, state, in_class, outcome_of}
 use Rattle.notation.specs.Refusals.{Stops}
+use Rattle.pattern.specs.ByteSets.{Holds}
+use Rattle.pattern.specs.Members.{state_of, Suits}
 
-abbrev pub state_of : Progress → ClassState
-state_of Empty = fresh
-state_of Between = fresh
-state_of (Member a) = member a
-state_of (Dash a) = dashed a
-state_of Escape = in_escape
-state_of (DashEscape a) = dashed_escape a
+abbrev pub Makes : OpenClass → Symbol → Type 0
+Makes c (these rs) = (c.complement ≡ false) × Holds c.members (these rs)
+Makes c (others rs) = (c.complement ≡ true) × Holds c.members (these rs)
 
--- rs are the members that are finished
-abbrev pub Suits : List Range → Progress → Type 0
-Suits rs Empty = rs ≡ []
-Suits rs Between = 0 < length rs
-Suits rs (Member a) = Unit {0}
-Suits rs (Dash a) = Unit {0}
-Suits rs Escape = Unit {0}
-Suits rs (DashEscape a) = Unit {0}
+pub record IsAt (c : OpenClass) (s : Symbol) : Type 0 where
+  pub makes : Makes c s
+  pub suits : Suits s c.progress
 
-abbrev pub with_last : List Range → Option Range → List Range
-with_last rs None = rs
-with_last rs (Some r) = rs ++ r ∷ []
+abbrev pub Leads : Option Onward → ClassNext → OpenClass → Type 0
+Leads None n new = n ≡ no_class
+Leads (Some goes_on) n new = (s : Symbol) × (n ≡ inside s (state_of new.progress)) × IsAt new s
+Leads (Some ends) n new = (s : Symbol) × (n ≡ finished s) × Makes new s
 
--- the member that a byte finishes
-abbrev pub completed : Option Taken → Option Range
-completed None = None
-completed (Some (Inside f)) = f
-completed (Some (Ended f)) = f
-
-abbrev pub Leads : List Range → Option Taken → ClassNext → Progress → Type 0
-Leads rs (Some (Inside f)) n new = (n ≡ inside (with_last rs f) (state_of new)) × Suits (with_last rs f) new
-Leads rs (Some (Ended f)) n new = n ≡ finished (with_last rs f)
-Leads rs None n new = n ≡ no_class
-
-abbrev pub Follows : Progress → ℕ → Option Taken → Progress → Type 0
-Follows old b t new = (rs : List Range) → Suits rs old → Leads rs t (class_next (class_kind b) b rs (state_of old)) new
+abbrev pub Advances : OpenClass → ℕ → Option Onward → OpenClass → Type 0
+Advances old b t new = (s : Symbol) → IsAt old s → Leads t (class_next (class_kind b) b s (state_of old.progress)) new
 
 pub record ClassRead (p : List ℕ) (at end : ℕ) : Type 0 where
   pub forward : at ≤ end
   pub within : end < length p
   pub bracket : slice_index_or p end 0 ≡ 93
-  pub members : List Range
-  pub some : 0 < length members
-  pub written : Members (slice_range p at end) members
+  pub symbol : Symbol
+  pub written : Class (slice_range p at end) symbol
+  pub some : TakesSome symbol
 
 abbrev pub ClassStops : List ℕ → ℕ → Fault → Type 0
-ClassStops p at f = (fr : Frame) (d : ℕ) (ctx : List Frame) → Stops p f (outcome_of (state (in_class [] fresh) fr d ctx) (drop at p))
+ClassStops p at f = (fr : Frame) (d : ℕ) (ctx : List Frame) → Stops p f (outcome_of (state (in_class (these []) entered) fr d ctx) (drop at p))
 
 -- no class stands from `at` on, and the fault has its place
 pub record ClassRefused (p : List ℕ) (at : ℕ) (f : Fault) : Type 0 where
-  pub none : (n : ℕ) (rs : List Range) → Members (take n (drop at p)) rs → 0 < length rs → at + n < length p → slice_index p (at + n) ≢ 93
+  pub none : (n : ℕ) (s : Symbol) → Class (take n (drop at p)) s → TakesSome s → at + n < length p → slice_index p (at + n) ≢ 93
   pub stops : ClassStops p at f

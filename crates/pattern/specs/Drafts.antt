@@ -19,14 +19,14 @@ abbrev pub Keeps : {T : Type 0} → (T → Regex → Type 0) → Draft T → Mod
 Keeps S c ready fr = Opens S c fr × IsNone c.last
 Keeps S c (after f) fr = Opens S c fr × IsSomeAnd c.last (λ x. S x f)
 Keeps S c escape fr = ⊥
-Keeps S c (in_class rs s) fr = ⊥
+Keeps S c (in_class s k) fr = ⊥
 Keeps S c (in_count f s) fr = ⊥
 
 abbrev pub settled : Mode → Frame → Frame
 settled ready fr = fr
 settled (after f) fr = push f fr
 settled escape fr = fr
-settled (in_class rs s) fr = fr
+settled (in_class s k) fr = fr
 settled (in_count f s) fr = fr
 
 abbrev pub branch_of : Frame → Regex

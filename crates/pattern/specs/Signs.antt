@@ -3,13 +3,13 @@
 --   text s            the bytes of the sign s
 --   Formed repeatable s    s is a sign of its kind; a repeat only where one may stand
 --   Handed p at repeatable s   s is the sign at `at`, or the end of p
-use Rattle.std.specs.Prelude.{◌≡◌, ℕ, ◌+◌, ◌<◌, Bool, true, false, List, [], ◌∷◌, ◌++◌, length, take, drop, nat_le}
+use Rattle.std.specs.Prelude.{◌≡◌, ℕ, ◌+◌, Bool, true, false, List, [], ◌∷◌, ◌++◌, length, take, drop, nat_le}
 use Rattle.fault.specs.declared.Fault.{Fault}
 use Rattle.pattern.specs.declared.sign.Sign.{Sign}
 use Rattle.pattern.specs.declared.sign.Sign.TheVariants.{Plain, Escape, Any, Class, Bar, Star, Plus, Question, Counted, Open, Close, End}
 use Rattle.notation.specs.Characters.{kind, plain, escapable}
-use Rattle.notation.specs.Expressions.{Range, Regex}
-use Rattle.notation.specs.Grammar.{Members, Atom, Repeated}
+use Rattle.notation.specs.Expressions.{Symbol, TakesSome, Regex}
+use Rattle.notation.specs.Grammar.{Class as Written, Atom, Repeated}
 use Rattle.notation.specs.Automaton.{Frame, Mode, ready, after, state, outcome_of}
 use Rattle.notation.specs.Refusals.{Stops}
 use Rattle.pattern.specs.Repeats.{Braced}
@@ -41,7 +41,7 @@ abbrev pub Formed : Bool → Sign → Type 0
 Formed repeatable (Plain t) = (b : ℕ) × (t.now ≡ b ∷ []) × (kind b ≡ plain)
 Formed repeatable (Escape t) = (b : ℕ) × (t.now ≡ 92 ∷ (b ∷ [])) × (escapable b ≡ true)
 Formed repeatable (Any t) = t.now ≡ 46 ∷ []
-Formed repeatable (Class t) = (rs : List Range) × Members t.now rs × (0 < length rs)
+Formed repeatable (Class t) = (s : Symbol) × Written t.now s × TakesSome s
 Formed repeatable (Bar t) = t.now ≡ 124 ∷ []
 Formed repeatable (Star t) = (t.now ≡ 42 ∷ []) × (repeatable ≡ true)
 Formed repeatable (Plus t) = (t.now ≡ 43 ∷ []) × (repeatable ≡ true)

@@ -1,14 +1,12 @@
 // What a pattern is put together as while it is read: the reader asks for each part, in the field's
 // words for the operations of an algebra of expressions.
-ghost use Rattle.std.specs.Prelude.{ℕ, ◌<◌, ◌≤◌, List, length};
-ghost use Rattle.notation.specs.Expressions.{Range, Regex, byte as byte_of, any as any_of, one, empty, seq, alt, star as star_of, plus as plus_of, opt, counted as counted_of};
-ghost use Rattle.notation.specs.Grammar.{Members};
+ghost use Rattle.std.specs.Prelude.{◌≤◌};
+ghost use Rattle.notation.specs.Expressions.{Symbol, TakesSome, Regex, byte as byte_of, any as any_of, one, empty, seq, alt, star as star_of, plus as plus_of, opt, counted as counted_of};
+ghost use Rattle.pattern.specs.ByteSets.{Holds};
 
-use crate::gathering::Gathering;
+use crate::bytes::ByteSet;
 
 pub trait Assembly: Copy {
-    type Letters: Gathering;
-
     // The expressions that a part can be taken for.
     ghost stands: { Self → Regex → Type 0 };
 
@@ -21,9 +19,9 @@ pub trait Assembly: Copy {
     fn any() -> Self
         ensures value { stands result (one any_of) };
 
-    // A class, by its members.
-    fn class(letters: &Self::Letters) -> Self
-        ensures value { (w : List ℕ) (rs : List Range) → Members w rs → 0 < length rs → Self.Letters.Gathering.holds letters.now rs → stands result (one rs) };
+    // A class, by the bytes that it takes.
+    fn class(bytes: &ByteSet) -> Self
+        ensures value { (s : Symbol) → TakesSome s → Holds bytes.now s → stands result (one s) };
 
     fn then(&self, second: &Self) -> Self
         ensures value { (e f : Regex) → stands self.now e → stands second.now f → stands result (seq e f) };

@@ -1,74 +1,141 @@
-// The class, from after its bracket: its state and the next byte together decide.
-ghost use Rattle.std.specs.Prelude.{◌≡◌, ◌<◌, List, length, IfOk, MatchResult};
+// The class, from after its bracket.
+ghost use Rattle.std.specs.Prelude.{◌≡◌, [], IfOk, MatchResult};
 ghost use Rattle.pattern.specs.Cursors.{OnePattern};
-ghost use Rattle.notation.specs.Expressions.{Range};
-ghost use Rattle.notation.specs.Grammar.{Members};
-ghost use Rattle.pattern.specs.Classes.{Follows, completed, with_last, ClassRead, ClassRefused};
+ghost use Rattle.notation.specs.Expressions.{Symbol, these, TakesSome};
+ghost use Rattle.notation.specs.Grammar.{Class};
+ghost use Rattle.notation.specs.ClassAutomaton.{dashed_escape, naming, can_take, can_end};
+ghost use Rattle.pattern.specs.declared.member.Progress.TheVariants.{Opened};
+ghost use Rattle.pattern.specs.ByteSets.{Holds};
+ghost use Rattle.pattern.specs.Members.{so_far, state_of, with_last};
+ghost use Rattle.pattern.specs.Classes.{Makes, IsAt, Advances, ClassRead, ClassRefused};
 
-use crate::character::{is_escapable, is_itself};
+use crate::bytes::ByteSet;
+use crate::character::is_escapable;
 use crate::cursor::Cursor;
-use crate::gathering::Gathering;
+use crate::member::{Member, Progress, Taken};
+use crate::spelling::Spelled;
 use fault::Fault;
+use notation::names::NAMES;
 
-// How far the member in hand has come; the byte is its first.
+// A class as far as it has been read: whether it is a complement, the bytes of its members that are
+// finished, and the member in hand.
 #[derive(Clone, Copy)]
-pub enum Progress {
-    Empty,
-    Between,
-    Member(u8),
-    Dash(u8),
-    Escape,
-    DashEscape(u8),
+pub(crate) struct OpenClass {
+    pub(crate) complement: bool,
+    pub(crate) members: ByteSet,
+    pub(crate) progress: Progress,
 }
 
-// What a byte does that can stand where it is: the class goes on, or ends. Either can finish a
-// member, of which the first and the last byte are told.
+// Whether the class goes on or ends with the byte.
 #[derive(Clone, Copy)]
-pub enum Taken {
-    Inside(Option<(u8, u8)>),
-    Ended(Option<(u8, u8)>),
+pub(crate) enum Onward {
+    Inside,
+    Ended,
 }
 
-impl Progress {
-    fn go(&mut self, next: Progress, member: Option<(u8, u8)>) -> Option<Taken>
-        ensures value { result ≡ Some (Taken.Inside member) }
-        ensures left { self.new ≡ next }
+impl OpenClass {
+    fn opened() -> OpenClass
+        ensures value { IsAt result (these []) }
+        ensures start { result.progress ≡ Opened }
     {
-        *self = next;
-        Some(Taken::Inside(member))
+        OpenClass {
+            complement: false,
+            members: ByteSet::none(),
+            progress: Progress::Opened,
+        }
     }
 
-    // `None` where the byte cannot stand here.
-    fn take(&mut self, byte: u8) -> Option<Taken>
-        ensures cases { Follows self.old byte result self.new }
+    // `None` where the byte cannot stand: a complement whose members leave no byte cannot be mended.
+    fn take(&mut self, byte: u8) -> Option<Onward>
+        ensures cases { Advances self.old byte result self.new }
     {
-        match (*self, byte as char) {
-            (Progress::Empty, '\\') => self.go(Progress::Escape, None),
-            (Progress::Empty, _) if is_itself(byte) => self.go(Progress::Member(byte), None),
-            (Progress::Between, ']') => Some(Taken::Ended(None)),
-            (Progress::Between, '\\') => self.go(Progress::Escape, None),
-            (Progress::Between, _) if is_itself(byte) => self.go(Progress::Member(byte), None),
-            (Progress::Member(first), ']') => Some(Taken::Ended(Some((first, first)))),
-            (Progress::Member(first), '-') => self.go(Progress::Dash(first), None),
-            (Progress::Member(first), '\\') => self.go(Progress::Escape, Some((first, first))),
-            (Progress::Member(first), _) if is_itself(byte) => self.go(
-                Progress::Member(byte),
-                Some((first, first)),
-            ),
-            (Progress::Dash(first), '\\') if first <= b'}' => self.go(
-                Progress::DashEscape(first),
-                None,
-            ),
-            (Progress::Dash(first), _) if first <= byte && is_itself(byte) => self.go(
-                Progress::Between,
-                Some((first, byte)),
-            ),
-            (Progress::Escape, _) if is_escapable(byte) => self.go(Progress::Member(byte), None),
-            (Progress::DashEscape(first), _) if first <= byte && is_escapable(byte) => self.go(
-                Progress::Between,
-                Some((first, byte)),
-            ),
-            _ => None,
+        match self.progress.take(byte)? {
+            Taken::Complement => {
+                self.complement = true;
+                Some(Onward::Inside)
+            }
+            Taken::Inside(finished) => {
+                self.add(finished);
+                if self.can_end() {
+                    Some(Onward::Inside)
+                } else {
+                    None
+                }
+            }
+            // That it takes a byte was tested before: the member in hand could end.
+            Taken::Ended(finished) => {
+                self.add(finished);
+                Some(Onward::Ended)
+            }
+        }
+    }
+
+    fn add(&mut self, finished: Option<Member>)
+        ensures value { (s : Symbol) → Makes self.old s → Makes self.new (with_last s finished) }
+        ensures same { self.new.progress ≡ self.old.progress }
+    {
+        if let Some(member) = finished {
+            member.add_to(&mut self.members);
+        }
+    }
+
+    // With one member more, or with none, the class can still take a byte.
+    fn can_take(&self, more: Option<Member>) -> bool
+        ensures value { (s : Symbol) → Makes self.now s → result ≡ can_take (with_last s more) }
+    {
+        if !self.complement {
+            return true;
+        }
+        let mut longer = *self;
+        longer.add(more);
+        !longer.members.is_full()
+    }
+
+    // The member in hand can end so that the class can still take a byte.
+    fn can_end(&self) -> bool
+        ensures value { (s : Symbol) → Makes self.now s → result ≡ can_end s (state_of self.now.progress) }
+    {
+        match self.progress {
+            Progress::Opened | Progress::Empty | Progress::Between | Progress::Escape =>
+                self.can_take(None),
+            Progress::Single(first) | Progress::Dash(first) => {
+                let member = Member::Range(first, first);
+                self.can_take(Some(member))
+            }
+            Progress::DashEscape(first) => self.escape_can_end(first),
+            Progress::Naming(begun) => self.name_can_end(begun),
+        }
+    }
+
+    fn escape_can_end(&self, first: u8) -> bool
+        ensures value { (s : Symbol) → Makes self.now s → result ≡ can_end s (dashed_escape first) }
+    {
+        for last in first..=255 {
+            if is_escapable(last) && self.can_take(Some(Member::Range(first, last))) {
+                return true;
+            }
+        }
+        false
+    }
+
+    fn name_can_end(&self, begun: Spelled) -> bool
+        ensures value { (s : Symbol) → Makes self.now s → result ≡ can_end s (naming (so_far begun)) }
+    {
+        for name in NAMES {
+            if begun.begins(name) && self.can_take(Some(Member::Name(name))) {
+                return true;
+            }
+        }
+        false
+    }
+
+    fn bytes(&self) -> ByteSet
+        ensures value { (s : Symbol) → Makes self.now s → Holds result s }
+    {
+        if self.complement {
+            self.members.others()
+        } else {
+            self.members
         }
     }
 }
@@ -79,35 +146,24 @@ pub(crate) fn end(from: Cursor) -> Result<Cursor, Fault>
     ensures same { IfOk result (λ end. OnePattern from.entry end) }
 {
     let mut here = from;
-    let mut progress = Progress::Empty;
+    let mut class = OpenClass::opened();
     loop {
-        match progress.take(here.byte()?).ok_or(here.refuse())? {
-            Taken::Inside(_) => here = here.next(),
-            Taken::Ended(_) => return Ok(here),
+        match class.take(here.byte()?).ok_or(here.refuse())? {
+            Onward::Inside => here = here.next(),
+            Onward::Ended => return Ok(here),
         }
     }
 }
 
-// The members so far, with the one that a byte has finished.
-fn gathered<T: Gathering>(found: &T, taken: Option<Taken>) -> T
-    ensures value { (rs : List Range) → T.Gathering.holds found.now rs → T.Gathering.holds result (with_last rs (completed taken)) }
+// The bytes that a class takes, from what stands between its brackets. Each byte can stand where it is;
+// the bracket that follows them finishes the last member.
+pub(crate) fn bytes(inside: &[u8]) -> ByteSet
+    ensures value { (s : Symbol) → Class inside.now s → TakesSome s → Holds result s }
 {
-    match taken {
-        Some(Taken::Inside(Some((low, high)))) => found.with(low, high),
-        Some(Taken::Ended(Some((low, high)))) => found.with(low, high),
-        _ => *found,
-    }
-}
-
-// The members of a class, from what stands between its brackets. Each byte can stand where it is; the
-// bracket that follows them finishes the last member.
-pub(crate) fn members<T: Gathering>(inside: &[u8]) -> T
-    ensures value { (rs : List Range) → Members inside.now rs → 0 < length rs → T.Gathering.holds result rs }
-{
-    let mut member = Progress::Empty;
-    let mut found = T::none();
+    let mut class = OpenClass::opened();
     for byte in inside {
-        found = gathered(&found, member.take(*byte));
+        class.take(*byte);
     }
-    gathered(&found, member.take(b']'))
+    class.take(b']');
+    class.bytes()
 }

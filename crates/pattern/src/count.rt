@@ -5,7 +5,7 @@ ghost use Rattle.std.specs.Prelude.{◌≡◌, min};
 ghost use Rattle.notation.specs.Places.{places as places_of};
 
 use crate::assembly::Assembly;
-use crate::gathering::Unseen;
+use crate::bytes::ByteSet;
 use std::cmp;
 
 #[derive(Clone, Copy)]
@@ -22,8 +22,6 @@ fn cap(count: u16) -> Count
 }
 
 impl Assembly for Count {
-    type Letters = Unseen;
-
     ghost stands = { λ c e. c.places ≡ min (places_of e) 64 };
 
     fn nothing() -> Count {
@@ -38,7 +36,7 @@ impl Assembly for Count {
         cap(1)
     }
 
-    fn class(letters: &Unseen) -> Count {
+    fn class(bytes: &ByteSet) -> Count {
         cap(1)
     }
 

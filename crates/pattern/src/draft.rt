@@ -96,7 +96,7 @@ impl<T: Assembly> Draft<T> {
             Sign::Plain(t) => self.atom(T::byte(t[0])),
             Sign::Escape(t) => self.atom(T::byte(t[1])),
             Sign::Any(_) => self.atom(T::any()),
-            Sign::Class(inside) => self.atom(T::class(&class::members(inside))),
+            Sign::Class(inside) => self.atom(T::class(&class::bytes(inside))),
             Sign::Bar(_) => self.bar(),
             Sign::Star(_) => self.repeated(|atom| atom.star()),
             Sign::Plus(_) => self.repeated(|atom| atom.plus()),

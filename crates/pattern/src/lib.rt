@@ -2,16 +2,18 @@
 #![tactic(auto)]
 
 pub mod assembly;
+pub mod bytes;
 mod character;
 mod class;
 mod count;
 mod cursor;
 mod draft;
-pub mod gathering;
+mod member;
 mod reader;
 mod reading;
 pub mod record;
 mod repeat;
 mod sign;
+mod spelling;
 
 pub use crate::record::Pattern;

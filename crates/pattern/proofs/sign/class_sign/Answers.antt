@@ -16,4 +16,4 @@ returns c =
     let (lt, is) = c.requires.bracket in
     let read = rw (c.next-inside.ensures.pattern, c.next-inside.ensures.at) at c.in_ok-end.ensures.cases in
     let inner = rw (c.next-inside.ensures.pattern, c.next-inside.ensures.at) at c.until.ensures.value in
-    record { cases = λ after. record { formed = (read.members, rw inner read.written, read.some); part = class_part _ _ lt _ is read _ inner; ended = sym (lt-leb _ _ lt) } }
+    record { cases = λ after. record { formed = (read.symbol, rw inner read.written, read.some); part = class_part _ _ lt _ is read _ inner; ended = sym (lt-leb _ _ lt) } }

@@ -16,7 +16,7 @@ pub returns-in-Any : goal.returns-in-Any
 returns-in-Any g c = record { value = any_grows _ _ _ _ c.requires.formed _ c.in-Any.is (c.atom-in-Any.ensures.value _ c.any.ensures.value) }
 
 pub returns-in-Class : goal.returns-in-Class
-returns-in-Class g c = record { value = class_grows _ _ _ _ c.requires.formed _ c.in-Class.is (λ rs ms some. c.atom-in-Class.ensures.value _ (c.class.ensures.value _ rs ms some (c.members.ensures.value rs ms some))) }
+returns-in-Class g c = record { value = class_grows _ _ _ _ c.requires.formed _ c.in-Class.is (λ s written some. c.atom-in-Class.ensures.value _ (c.class.ensures.value s some (c.bytes.ensures.value s written some))) }
 
 pub returns-in-Bar : goal.returns-in-Bar
 returns-in-Bar g c = record { value = bar_grows _ _ _ _ c.requires.formed _ c.in-Bar.is c.bar.ensures.value }
