@@ -1,5 +1,4 @@
 -- The lemmas about the place machine, a topic to a file. Assumes nothing.
-pub mod ClassSymbols
 pub mod Copies
 pub mod Either
 pub mod Later

@@ -1,7 +1,7 @@
 -- The worked examples, one by one. Assumes nothing.
 use Rattle.std.proofs.Common.{refl}
 use Rattle.notation.specs.Expressions.{empty}
-use Rattle.notation.proofs.Worked.{empty_read, empty_omits, stars, stars_read, stars_none, stars_twice, stars_omit, plusses, plusses_read, plusses_yield, plusses_omit, counts, counts_read, counts_yield, counts_omit, none_of, none_read, none_omits, full, full_read, crowded, most_below_least, range_backwards, count_too_large, repeated_twice, nothing_to_repeat}
+use Rattle.notation.proofs.Worked.{empty_read, empty_omits, stars, stars_read, stars_none, stars_twice, stars_omit, plusses, plusses_read, plusses_yield, plusses_omit, counts, counts_read, counts_yield, counts_omit, none_of, none_read, none_omits, full, full_read, crowded, most_below_least, range_backwards, count_too_large, repeated_twice, nothing_to_repeat, digit, digit_read, digit_yields, digit_omits, not_a, not_a_read, not_a_yields, not_a_omits, unknown_name, nothing_left}
 use Rattle.machines.specs.Examples.{Examples}
 use Rattle.machines.proofs.EmptyPattern.{two_sets, two_starts}
 
@@ -35,4 +35,10 @@ examples =
     and count_too_large
     and repeated_twice
     and nothing_to_repeat
+    and (digit, digit_read, digit_yields)
+    and (digit, digit_read, digit_omits)
+    and (not_a, not_a_read, not_a_yields)
+    and (not_a, not_a_read, not_a_omits)
+    and unknown_name
+    and nothing_left
     and tt

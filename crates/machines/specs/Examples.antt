@@ -27,6 +27,10 @@ Holds (p has_sets n) = (e : Regex) × ReadAs p e × MoreSets (n - 1) e × (MoreS
 Holds (p has_starts n) = (e : Regex) × ReadAs p e × MoreStarts (n - 1) e × (MoreStarts n e → ⊥)
 Holds (p answers f) = Refused p f
 
+-- `[^`, byte 0, `-`, byte 255, `]`: a complement that leaves no byte
+abbrev pub all_but_none : List ℕ
+all_but_none = 91 ∷ 94 ∷ 0 ∷ 45 ∷ 255 ∷ 93 ∷ []
+
 abbrev pub claims : List Claim
 claims =
     codes "" has_places 0
@@ -53,6 +57,12 @@ claims =
     ∷ codes "a{33}" answers refused BadlyWritten 3
     ∷ codes "a**" answers refused BadlyWritten 2
     ∷ codes "*a" answers refused BadlyWritten 0
+    ∷ codes "[[:digit:]]" yields codes "5"
+    ∷ codes "[[:digit:]]" omits codes "a"
+    ∷ codes "[^a]" yields codes "b"
+    ∷ codes "[^a]" omits codes "a"
+    ∷ codes "[[:foo:]]" answers refused BadlyWritten 3
+    ∷ all_but_none answers refused BadlyWritten 4
     ∷ []
 
 abbrev pub Examples : Type 0

@@ -1,6 +1,5 @@
 -- What the place machine of a pattern is, how it is put together and what holds of it. Assumes nothing.
 pub mod Built
-pub mod ClassLetters
 pub mod Fragments
 pub mod Laws
 pub mod Letters

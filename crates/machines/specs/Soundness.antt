@@ -2,8 +2,8 @@
 --
 --   Sound ok e  each symbol of e satisfies `ok`, and no count asks for more than it allows
 --   Sane e      each symbol of e takes some byte, and no count asks for more than it allows
-use Rattle.std.specs.Prelude.{ℕ, ◌<◌, ◌≤◌}
-use Rattle.notation.specs.Expressions.{Expr, one, empty, seq, alt, star, plus, opt, counted, Regex, Symbol, Takes}
+use Rattle.std.specs.Prelude.{◌≤◌}
+use Rattle.notation.specs.Expressions.{Expr, one, empty, seq, alt, star, plus, opt, counted, TakesSome, Regex}
 
 abbrev pub Sound : {S : Type 0} → (S → Type 0) → Expr S → Type 0
 Sound ok (one s) = ok s
@@ -14,9 +14,6 @@ Sound ok (star e) = Sound ok e
 Sound ok (plus e) = Sound ok e
 Sound ok (opt e) = Sound ok e
 Sound ok (counted m n e) = (m ≤ n) × Sound ok e
-
-abbrev pub TakesSome : Symbol → Type 0
-TakesSome s = (b : ℕ) × (b < 256) × Takes s b
 
 abbrev pub Sane : Regex → Type 0
 Sane e = Sound TakesSome e

@@ -7,6 +7,6 @@ pub fn worked_examples() -> usize
     ensures value { result ≡ length claims }
     ensures stand { Examples }
 {
-    const CLAIMS: usize = 24;
+    const CLAIMS: usize = 30;
     CLAIMS
 }

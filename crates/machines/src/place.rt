@@ -7,7 +7,6 @@ ghost use Rattle.machines.specs.Place.Shown.Machine.{made_inhabited};
 
 // Its tables, what stands for a byte, a class or a part of a pattern, and the build of the whole.
 pub mod build;
-mod class_letters;
 mod fragment;
 mod letters;
 mod tables;

@@ -1,12 +1,12 @@
 -- The laws of place machines, and what a machine is built for. Assumes nothing.
 use Rattle.std.proofs.Common.{[], sym, ap, ◌∙◌, append-nil, arith}
-use Rattle.notation.specs.Expressions.{Regex, Takes}
+use Rattle.notation.specs.Expressions.{Regex, Takes, TakesSome}
 use Rattle.machines.specs.declared.place.tables.Tables.{Tables}
 use Rattle.machines.specs.Place.Built.{BuiltFor}
 use Rattle.machines.specs.Place.Laws.{SpelledExactly, EachPlaceLives, MeansExactly, ReachesExactly, JoinsExactly, Neutral, PlaceLaws}
 use Rattle.machines.specs.Place.Tables.{TablesOf, Meant}
 use Rattle.machines.specs.Place.Runs.{leg}
-use Rattle.machines.specs.Soundness.{Sane, TakesSome}
+use Rattle.machines.specs.Soundness.{Sane}
 use Rattle.relations.proofs.Composing.{associative}
 use Rattle.machines.specs.Place.Shown.Machine.{meant_matches, is_leg, made_narrow}
 use Rattle.machines.specs.Place.Shown.Running.{leg_joined}

@@ -1,7 +1,7 @@
 -- The parts of a machine, put together: what represents two expressions represents the one that is made of them. Assumes nothing.
 use Rattle.std.proofs.Common.{◌≡◌, ℕ, ◌+◌, ◌≤◌, min, List, get_or, refl, ap, ◌∙◌, subst, arith}
 use mathlib.Core.Logic.{∥∥₁_map}
-use Rattle.notation.specs.Expressions.{one, empty, seq, alt, star, opt, Regex, Symbol}
+use Rattle.notation.specs.Expressions.{one, empty, seq, alt, star, opt, Regex, Symbol, TakesSome}
 use Rattle.notation.specs.Meaning.{Means}
 use Rattle.notation.specs.Places.{places}
 use Rattle.machines.specs.declared.place.tables.Tables.{Tables}
@@ -11,7 +11,7 @@ use Rattle.machines.specs.Place.Letters.{LettersOf, SomeLetters}
 use Rattle.relations.specs.Masks.{Has}
 use Rattle.machines.specs.Place.Making.{Changes, Combines}
 use Rattle.machines.specs.Place.Tables.{TablesOf, Made}
-use Rattle.machines.specs.Soundness.{Sane, TakesSome}
+use Rattle.machines.specs.Soundness.{Sane}
 use Rattle.machines.specs.Place.Spellings.{Place, spread, Spelling, SpellingFrom}
 use Rattle.machines.proofs.PlaceLemmas.Later.{later_tables}
 use Rattle.machines.proofs.PlaceLemmas.Either.{either_tables}

@@ -1,18 +1,13 @@
 -- The bytes that one place takes, as rows of masks. Assumes nothing.
 --
---   LettersOf s takes      row c has place 1 exactly if the symbol s takes the byte c, and no other place
---   SomeLetters takes      the rows are those of some symbol that takes a byte
---   Widens s low high s'   s' takes what s takes, and the bytes from `low` to `high`
-use Rattle.std.specs.Prelude.{◌≡◌, ℕ, ◌<◌, ◌≤◌, ◌⊎◌, ◌↔◌, List, slice_index}
-use Rattle.notation.specs.Expressions.{Symbol, Takes}
+--   LettersOf s takes   row c has place 1 exactly if the symbol s takes the byte c, and no other place
+--   SomeLetters takes   the rows are those of some symbol that takes a byte
+use Rattle.std.specs.Prelude.{◌≡◌, ℕ, ◌<◌, ◌↔◌, List, slice_index}
+use Rattle.notation.specs.Expressions.{Symbol, Takes, TakesSome}
 use Rattle.relations.specs.Masks.{Has}
-use Rattle.machines.specs.Soundness.{TakesSome}
 
 abbrev pub LettersOf : Symbol → List ℕ → Type 0
 LettersOf s takes = (c p : ℕ) → c < 256 → Has (slice_index takes c) p ↔ ((p ≡ 1) × Takes s c)
 
 abbrev pub SomeLetters : List ℕ → Type 0
 SomeLetters takes = ∥ ((s : Symbol) × TakesSome s × LettersOf s takes) ∥₁
-
-abbrev pub Widens : Symbol → ℕ → ℕ → Symbol → Type 0
-Widens s low high s' = (c : ℕ) → c < 256 → Takes s' c ↔ (Takes s c ⊎ ((low ≤ c) × (c ≤ high)))

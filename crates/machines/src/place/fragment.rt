@@ -3,10 +3,10 @@
 ghost use Rattle.std.specs.Prelude.{◌≤◌};
 ghost use Rattle.machines.specs.Place.Fragments.{Part};
 
-use crate::place::class_letters::ClassLetters;
 use crate::place::letters::Letters;
 use crate::place::tables::Tables;
 use pattern::assembly::Assembly;
+use pattern::bytes::ByteSet;
 
 const MOST_PLACES: u8 = 63;
 
@@ -28,10 +28,9 @@ pub struct Fragment {
 
 impl Fragment {
     ghost use Rattle.std.specs.Fn.{FnOnceReturnsAt, FnOnceReturnsAtPair};
-    ghost use Rattle.notation.specs.Expressions.{Regex, Symbol, one};
+    ghost use Rattle.notation.specs.Expressions.{Regex, Symbol, TakesSome, one};
     ghost use Rattle.machines.specs.Place.Letters.{LettersOf};
     ghost use Rattle.machines.specs.Place.Making.{Changes, ChangesSome, Combines, CombinesSome};
-    ghost use Rattle.machines.specs.Soundness.{TakesSome};
     ghost use Rattle.machines.specs.Place.Spellings.{copies};
     ghost use Rattle.machines.specs.Place.Standing.{StandsFor};
 
@@ -98,8 +97,6 @@ impl Fragment {
 impl Assembly for Fragment {
     ghost use Rattle.machines.specs.Place.Standing.{StandsFor};
 
-    type Letters = ClassLetters;
-
     ghost stands = { λ f e. StandsFor e f.part };
 
     fn nothing() -> Fragment {
@@ -112,16 +109,17 @@ impl Assembly for Fragment {
     }
 
     fn byte(b: u8) -> Fragment {
-        Fragment::place(&Letters::byte(b))
+        Fragment::class(&ByteSet::range(b, b))
     }
 
     fn any() -> Fragment {
-        Fragment::place(&Letters::byte(0).with(0, 255))
+        Fragment::class(&ByteSet::range(0, 255))
     }
 
-    fn class(letters: &ClassLetters) -> Fragment {
-        match letters.letters {
-            Some(some) => Fragment::place(&some),
+    fn class(bytes: &ByteSet) -> Fragment {
+        match Letters::of(bytes) {
+            Some(letters) => Fragment::place(&letters),
+            // Every class that is read takes some byte.
             None => Fragment::nothing(),
         }
     }

@@ -1,44 +1,40 @@
 // The bytes that a place takes.
-ghost use Rattle.std.specs.Prelude.{◌≡◌, ℕ, ◌<◌, ◌≤◌, ◌↔◌, slice_index};
-ghost use Rattle.notation.specs.Expressions.{Symbol, byte as byte_of};
-ghost use Rattle.machines.specs.Place.Letters.{LettersOf, SomeLetters, Widens};
+ghost use Rattle.std.specs.Prelude.{◌≡◌, ℕ, ◌<◌, ◌↔◌, MatchOption, slice_index};
+ghost use Rattle.notation.specs.Expressions.{Symbol, TakesSome};
+ghost use Rattle.pattern.specs.ByteSets.{Has as HasByte, Holds};
+ghost use Rattle.machines.specs.Place.Letters.{LettersOf, SomeLetters};
 ghost use Rattle.relations.specs.Masks.{Has};
 
-use relations::masks::{only, single, union};
+use pattern::bytes::ByteSet;
+use relations::masks::{only, single};
 use relations::placeno::PlaceNo;
 use std::array;
 
-// Place 1 takes the bytes from `low` to `high`.
-fn between(low: u8, high: u8) -> [u64; 256]
-    ensures members { (c p : ℕ) → c < 256 → Has (slice_index result c) p ↔ ((p ≡ 1) × ((low ≤ c) × (c ≤ high))) }
+// Place 1 takes the bytes in the set.
+fn rows(bytes: &ByteSet) -> [u64; 256]
+    ensures members { (c p : ℕ) → c < 256 → Has (slice_index result c) p ↔ ((p ≡ 1) × HasByte bytes.now c) }
 {
-    let (low, high) = (usize::from(low), usize::from(high));
     let place = single(PlaceNo::nth(1));
-    array::from_fn(|c| only(place, (low <= c) & (c <= high)))
+    array::from_fn(|c| only(place, bytes.has(c as u8)))
 }
 
 // Row c has place 1 if byte c is taken: at least one is.
 #[derive(Clone, Copy)]
-pub struct Letters {
+pub(crate) struct Letters {
     pub(crate) takes: [u64; 256],
     ghost some: { SomeLetters takes },
 }
 
 impl Letters {
-    pub(crate) fn byte(byte: u8) -> Letters
-        ensures value { LettersOf (byte_of byte) result.takes }
+    // The bytes in the set, or `None` where it has none.
+    pub(crate) fn of(bytes: &ByteSet) -> Option<Letters>
+        ensures value { (s : Symbol) → Holds bytes.now s → MatchOption result (TakesSome s → ⊥) (λ l. LettersOf s l.takes) }
     {
-        Letters {
-            takes: between(byte, byte),
+        for byte in 0..=255 {
+            if bytes.has(byte) {
+                return Some(Letters { takes: rows(bytes) });
+            }
         }
-    }
-
-    // The bytes from `low` to `high` as well.
-    pub(crate) fn with(&self, low: u8, high: u8) -> Letters
-        ensures value { (s s' : Symbol) → Widens s low high s' → LettersOf s self.now.takes → LettersOf s' result.takes }
-    {
-        Letters {
-            takes: union(&self.takes, &between(low, high)),
-        }
+        None
     }
 }

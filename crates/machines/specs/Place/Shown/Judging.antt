@@ -3,14 +3,14 @@
 use Rattle.std.specs.Prelude.{◌≡◌, ℕ, zero, suc, ◌+◌, ◌<◌, ◌≤◌, ◌⊎◌, List, [], ◌∷◌, ◌++◌, refl}
 use Rattle.std.proofs.Common.{sym, subst, append_assoc, inr, ⊎_elim, arith}
 use Rattle.folding.specs.Texts.{Bytes}
-use Rattle.notation.specs.Expressions.{Regex, Symbol, Takes}
+use Rattle.notation.specs.Expressions.{Regex, Symbol, Takes, TakesSome}
 use Rattle.notation.specs.Meaning.{Matches, Lang}
 use Rattle.notation.specs.Places.{places}
 use Rattle.machines.specs.declared.place.tables.Tables.{Tables}
 use Rattle.relations.specs.Masks.{Has}
 use Rattle.machines.specs.Place.Tables.{TablesOf, Comes, PlaceTakes}
 use Rattle.machines.specs.Place.Runs.{Leads, Reaches}
-use Rattle.machines.specs.Soundness.{Sane, TakesSome}
+use Rattle.machines.specs.Soundness.{Sane}
 use Rattle.machines.specs.Place.Spellings.{Place, Spelling, Spells, Ends, Follows, On}
 use Rattle.machines.specs.Place.Shown.Joining.{on_first, on_ends, on_before, on_after}
 use Rattle.machines.specs.Place.Shown.Linear.{Linear, Walk}

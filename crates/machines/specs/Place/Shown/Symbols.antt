@@ -1,11 +1,11 @@
 -- The symbols of the places of an expression are symbols of the expression, and a sequence of places can be spelled. Assumes nothing.
 use Rattle.std.specs.Prelude.{◌≡◌, ℕ, zero, suc, ◌+◌, ◌-◌, ◌*◌, List, [], ◌∷◌, ◌++◌}
 use Rattle.std.proofs.Common.{sym, subst, append_assoc, ⊎_elim}
-use Rattle.notation.specs.Expressions.{Expr, one, empty, seq, alt, star, plus, opt, counted, Symbol, Takes}
+use Rattle.notation.specs.Expressions.{Expr, one, empty, seq, alt, star, plus, opt, counted, Symbol, Takes, TakesSome}
 use Rattle.notation.specs.Meaning.{Lang, Empty, Union, Closure, Means}
 use Rattle.notation.specs.Places.{places}
 use Rattle.folding.specs.Texts.{Bytes}
-use Rattle.machines.specs.Soundness.{Sound, TakesSome}
+use Rattle.machines.specs.Soundness.{Sound}
 use Rattle.machines.specs.Place.Spellings.{Place, series, spread, SpellingFrom, Spells, On}
 use Rattle.machines.specs.Place.Shown.Joining.{none_on, joined_on, union_on}
 use Rattle.machines.specs.Place.Shown.Linear.{single_on}
