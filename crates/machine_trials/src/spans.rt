@@ -66,11 +66,36 @@ fn next(at: usize) -> usize {
     at.saturating_add(1)
 }
 
+fn mark(set: &mut [bool; 256], low: u8, high: u8) {
+    for b in low..=high {
+        set[usize::from(b)] = true;
+    }
+}
+
 fn only(b: u8) -> [bool; 256] {
     let mut set = [false; 256];
-    set[usize::from(b)] = true;
+    mark(&mut set, b, b);
     set
 }
+
+// The names that a class can have, and the bytes of each, by ranges.
+const NAMED: [(&[u8], &[(u8, u8)]); 12] = [
+    (b"[:alpha:]", &[(b'A', b'Z'), (b'a', b'z')]),
+    (b"[:digit:]", &[(b'0', b'9')]),
+    (b"[:alnum:]", &[(b'0', b'9'), (b'A', b'Z'), (b'a', b'z')]),
+    (b"[:upper:]", &[(b'A', b'Z')]),
+    (b"[:lower:]", &[(b'a', b'z')]),
+    (b"[:space:]", &[(b'\t', b'\r'), (b' ', b' ')]),
+    (b"[:blank:]", &[(b'\t', b'\t'), (b' ', b' ')]),
+    (
+        b"[:punct:]",
+        &[(b'!', b'/'), (b':', b'@'), (b'[', b'`'), (b'{', b'~')],
+    ),
+    (b"[:print:]", &[(b' ', b'~')]),
+    (b"[:graph:]", &[(b'!', b'~')]),
+    (b"[:cntrl:]", &[(0, 31), (127, 127)]),
+    (b"[:xdigit:]", &[(b'0', b'9'), (b'A', b'F'), (b'a', b'f')]),
+];
 
 // A pattern, and the text that it is tried on. A part is read from a place on, and answered with the
 // place where it ends.
@@ -118,24 +143,44 @@ impl Matcher<'_> {
         }
     }
 
-    fn class(&self, mut at: usize) -> (usize, [bool; 256]) {
+    // A byte or a range of a class is marked in the set.
+    fn member(&self, at: usize, set: &mut [bool; 256]) -> usize {
+        let (end, low) = self.class_byte(at);
+        let (end, high) = if self.byte(end) == b'-' {
+            self.class_byte(next(end))
+        } else {
+            (end, low)
+        };
+        mark(set, low, high);
+        end
+    }
+
+    // A name likewise.
+    fn name(&self, at: usize, set: &mut [bool; 256]) -> usize {
+        let rest = self.pattern.get(at..).unwrap_or(&[]);
+        for (name, ranges) in NAMED {
+            if rest.starts_with(name) {
+                for (low, high) in ranges {
+                    mark(set, *low, *high);
+                }
+                return at.saturating_add(name.len());
+            }
+        }
+        next(at)
+    }
+
+    fn class(&self, at: usize) -> (usize, [bool; 256]) {
+        let others = self.byte(at) == b'^';
+        let mut at = if others { next(at) } else { at };
         let mut set = [false; 256];
         for _ in 0..256 {
-            if self.byte(at) == b']' {
-                break;
-            }
-            let (end, low) = self.class_byte(at);
-            let (end, high) = if self.byte(end) == b'-' {
-                self.class_byte(next(end))
-            } else {
-                (end, low)
+            at = match self.byte(at) {
+                b']' => break,
+                b'[' => self.name(at, &mut set),
+                _ => self.member(at, &mut set),
             };
-            for b in low..=high {
-                set[usize::from(b)] = true;
-            }
-            at = end;
         }
-        (next(at), set)
+        (next(at), set.map(|marked| marked != others))
     }
 
     #[cycle(alternatives_atom_branch)]
