@@ -6,7 +6,7 @@
 #include <stdlib.h>
 #include <string.h>
 
-enum { STACK = 8 << 20, PAINT = 0xa5, CASES = 2, BUNDLE = 4096 };
+enum { STACK = 8 << 20, PAINT = 0xa5, CASES = 3, BUNDLE = 4096 };
 
 typedef struct {
   const char *name, *pattern, *text;
@@ -15,6 +15,7 @@ typedef struct {
 static const Case cases[CASES] = {
     {"(abc)*", "(abc)*", "abcabcabc"},
     {"parentheses 16 deep", "((((((((((((((((a))))))))))))))))", "a"},
+    {"a class 16 deep", "(((((((((((((((([^a-z[:digit:]]))))))))))))))))", "A"},
 };
 
 static const uint8_t *bytes_of(const char *text) { return (const uint8_t *)text; }

@@ -8,7 +8,7 @@
  *
  * yorvuste_check and yorvuste_judge want up to 1 MB of stack, the more the deeper a pattern's parentheses
  * nest (bench/README.md has what was measured), so give a thread that calls them 2 MB. yorvuste_read wants
- * less than 5 KB. */
+ * less than 6 KB. */
 #ifndef YORVUSTE_H
 #define YORVUSTE_H
 
