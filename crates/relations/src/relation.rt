@@ -1,7 +1,7 @@
 // Relations between the states of a machine: what a text does to every state at once.
 ghost use Rattle.std.specs.Prelude.{◌≡◌};
 ghost use Rattle.relations.specs.Masks.{image};
-ghost use Rattle.relations.specs.Relations.{composed, identity as identity_relation, row as row_of, Composes};
+ghost use Rattle.relations.specs.Relations.{composed, identity as identity_relation, row as row_of, Composes, Associative};
 
 use crate::masks;
 use crate::placeno::PlaceNo;
@@ -40,6 +40,7 @@ impl Relation {
     pub fn then(&self, second: &Relation) -> Relation
         ensures value { result ≡ composed self.now second.now }
         ensures members { Composes self.now second.now result }
+        ensures associative { Associative }
     {
         Relation {
             rows: array::from_fn(|q| self.then_row(second, PlaceNo::nth(q))),

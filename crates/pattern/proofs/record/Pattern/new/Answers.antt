@@ -3,4 +3,4 @@ use Rattle.pattern.proofs.Outcomes.{empty_readable}
 use Rattle.pattern.proofs.record.Pattern.new.Goals as goal
 
 pub invariant_of-result : goal.invariant_of-result
-invariant_of-result c = search (rules, empty_readable)
+invariant_of-result c = empty_readable _ (search rules)
